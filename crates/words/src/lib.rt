@@ -5,6 +5,8 @@ ghost use Prim.Native.Nat.{ℕ, _+_, _*_, _<_, _≤_};
 ghost use lib.ListN.{length, getD};
 ghost use Rattle.words.specs.Names.{same-word, is-reserved, is-letter, is-name-byte, all-name-bytes, is-name};
 
+pub mod names;
+
 // The longest name.
 const MOST_LETTERS: usize = 24;
 
