@@ -1,1 +1,4 @@
 pub mod Meaning
+pub mod Stuck
+pub mod Layer
+pub mod Allowed

@@ -1,2 +1,5 @@
-// Locks: the interface that everything above is generic over, the layers that make a lock of a lock, and the two lowest locks.
+// Locks: the interface that everything above is generic over, and the layers that make a lock of a lock.
+pub mod allowance;
 pub mod lock;
+pub mod marks;
+pub mod stuck;

@@ -1,0 +1,5 @@
+pub mod AnyBelow
+pub mod AfterBelow
+pub mod Naming
+pub mod LayerLaws
+pub mod AllowanceLaws
