@@ -38,11 +38,17 @@ impl<L: Lock> Allowance<L> {
         ensures { λ r. ⌜ Cases r (λ p. (layer-fault (L·Lock .meaning lower) most ≡ None) × (p .lower ≡ lower) × (p .marks ≡ marks) × (p .most ≡ most)) (λ e. (layer-fault (L·Lock .meaning lower) most ≡ Some (e .fault)) × (e .lower ≡ lower)) ⌝ }
     {
         if most > 7 {
-            return Err(RefusedLayer { lower, fault: LayerFault::Allowance(most) });
+            return Err(RefusedLayer {
+                lower,
+                fault: LayerFault::Allowance(most),
+            });
         }
         let states = lower.states() * (most as u32 + 1);
         if states > 32_768 {
-            return Err(RefusedLayer { lower, fault: LayerFault::States(states) });
+            return Err(RefusedLayer {
+                lower,
+                fault: LayerFault::States(states),
+            });
         }
         Ok(Allowance { lower, marks, most })
     }
@@ -82,7 +88,11 @@ impl<L: Lock> Allowance<L> {
         ensures value { λ r. ⌜ r ≡ cond (marked (now (self .entry) .marks) act reaction) (left - 1) left ⌝ }
         ensures within { λ r. ⌜ r ≤ left ⌝ }
     {
-        if self.marks.has(act, reaction) { left.saturating_sub(1) } else { left }
+        if self.marks.has(act, reaction) {
+            left.saturating_sub(1)
+        } else {
+            left
+        }
     }
 }
 

@@ -16,7 +16,9 @@ impl Marks {
     pub fn none() -> Marks
         ensures { λ r. ⌜ marks-list r ≡ replicate 248 false ⌝ }
     {
-        Marks { table: [false; MARKS] }
+        Marks {
+            table: [false; MARKS],
+        }
     }
 
     pub fn has(&self, act: u8, reaction: u8) -> bool
