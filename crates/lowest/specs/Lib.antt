@@ -4,4 +4,3 @@ pub mod Listed
 pub mod FactViews
 pub mod ListedViews
 pub mod Lowest
-pub mod Pile

@@ -1,8 +1,7 @@
-// The two lowest locks, the live lock that one of them makes, and the pile that a file describes.
+// The two lowest locks, and the one of them that stands at the bottom of a pile.
 mod bits;
 pub mod facts;
 pub mod listed;
-pub mod live;
 pub mod lowest;
-pub mod pile;
-pub mod table;
+mod table;
+pub mod unmade;

@@ -13,9 +13,9 @@ use super::FactLock;
 use super::Rule;
 use crate::bits::is_short;
 use crate::bits::valuations;
-use crate::table::Unmade;
 use crate::table::at;
 use crate::table::blank;
+use crate::unmade::Unmade;
 use std::alloc::Global;
 
 fn in_range(facts: u8, acts: u8, first: u32) -> bool

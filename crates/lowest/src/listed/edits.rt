@@ -11,9 +11,9 @@ ghost use Rattle.lowest.specs.Listed.{move-place, move-in, listed-range};
 ghost use Rattle.lowest.specs.ListedViews.{listed-valuations, listed-moves, listable, Same-numbers, Fresh-listed};
 use super::ListedLock;
 use crate::bits::is_short;
-use crate::table::Unmade;
 use crate::table::at;
 use crate::table::blank;
+use crate::unmade::Unmade;
 use std::alloc::Global;
 
 fn in_range(facts: u8, acts: u8, first: u32, states: u32) -> bool

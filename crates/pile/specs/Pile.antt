@@ -2,9 +2,9 @@
 use Rattle.locks.specs.Allowed.{allowance, marked}
 use Rattle.locks.specs.Layer.{layered}
 use Rattle.locks.specs.Meaning.{Meaning}
 use Rattle.lowest.specs.Lowest.{lowest-lock}
-use Rattle.lowest.specs.declared.live.LiveLowest.{LiveLowest}
-use Rattle.lowest.specs.declared.pile.Pile.{Pile}
+use Rattle.pile.specs.declared.live.LiveLowest.{LiveLowest}
+use Rattle.pile.specs.declared.pile.Pile.{Pile}
 
 abbrev pub live-lock : LiveLowest → Meaning
 live-lock live = lowest-lock (live .lowest)

@@ -1,6 +1,6 @@
 ghost use mathlib.Core.Path.{_≡_};
 ghost use Rattle.lowest.specs.Lowest.{empty-meaning};
-ghost use Rattle.lowest.specs.Pile.{live-lock, pile-meaning};
+ghost use Rattle.pile.specs.Pile.{live-lock, pile-meaning};
 ghost use Rattle.locks.specs.Allowed.{allowance, marked, layer-fault};
 ghost use Rattle.locks.specs.Layer.{layered};
 ghost use Rattle.std.specs.declared.option.Option.the-variants.{Some, None};

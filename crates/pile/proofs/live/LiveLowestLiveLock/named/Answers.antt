@@ -1,9 +1,9 @@
 use mathlib.Core.Path.{sym, subst}
 use Rattle.locks.specs.Meaning.{Named}
 use Rattle.locks.proofs.Naming.{named-lowest}
 use Rattle.lowest.specs.Lowest.{lowest-lock}
 use Rattle.lowest.proofs.LowestLaws.{lowest-lawful}
-use Rattle.lowest.proofs.live.LiveLowestLiveLock.named.Needs as need
+use Rattle.pile.proofs.live.LiveLowestLiveLock.named.Needs as need
 
 pub returns : need.returns
 returns c =

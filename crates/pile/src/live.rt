@@ -1,15 +1,15 @@
 ghost use mathlib.Core.Path.{_≡_};
 ghost use Rattle.lowest.specs.Lowest.{lowest-lock};
 ghost use Rattle.locks.specs.Meaning.{Live};
 ghost use Rattle.locks.specs.Stuck.{First-stuck};
 ghost use Rattle.std.specs.Results.{Cases};
-use crate::lowest::Lowest;
-use crate::lowest::LowestLock;
 use locks::lock::LiveLock;
 use locks::lock::Lock;
 use locks::stuck::Stuck;
 use locks::stuck::first_stuck;
 use locks::stuck::lowest_possible;
+use lowest::lowest::Lowest;
+use lowest::lowest::LowestLock;
 
 // A lowest lock in which each allowed act has a possible reaction.
 #[derive(Drop)]
