@@ -8,6 +8,9 @@ ghost use Rattle.std.specs.Options.{valueOr};
 pub mod answers;
 mod edits;
 
+// The most states that can be listed.
+pub const MOST_LISTED: u32 = 1_024;
+
 // The lock whose states are listed, each by its valuation, and whose moves are: for a state, an act and a reaction
 // the state after, or nothing.
 #[derive(Drop)]

@@ -5,6 +5,7 @@ ghost use Rattle.locks.specs.Stuck.{First-stuck};
 ghost use Rattle.std.specs.Results.{Cases};
 use locks::lock::LiveLock;
 use locks::lock::Lock;
+use locks::lock::NO_REACTION;
 use locks::stuck::Stuck;
 use locks::stuck::first_stuck;
 use locks::stuck::lowest_possible;
@@ -76,6 +77,6 @@ pub impl Lock for LiveLowest as LiveLowestLock {
 
 pub impl LiveLock for LiveLowest as LiveLowestLiveLock {
     fn named(&self, state: u32, act: u8) -> u8 {
-        lowest_possible(&self.lowest, state, act).unwrap_or(255)
+        lowest_possible(&self.lowest, state, act).unwrap_or(NO_REACTION)
     }
 }

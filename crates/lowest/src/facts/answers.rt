@@ -6,6 +6,7 @@ use crate::bits::meets;
 use crate::bits::rewrite;
 use crate::bits::valuations;
 use locks::lock::Lock;
+use locks::lock::REACTIONS;
 
 pub impl Lock for FactLock as FactLockAnswers {
     ghost meaning = { fact-lock };
@@ -41,7 +42,7 @@ pub impl Lock for FactLock as FactLockAnswers {
     }
 
     fn possible(&self, state: u32, act: u8, reaction: u8) -> bool {
-        if reaction >= 8 || !self.allowed(state, act) {
+        if reaction >= REACTIONS || !self.allowed(state, act) {
             return false;
         }
         match self.change(act, reaction) {

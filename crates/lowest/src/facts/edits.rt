@@ -6,6 +6,7 @@ ghost use Prim.Native.Nat.{_+_, _*_, _≤_};
 ghost use Rattle.std.specs.declared.option.Option.the-variants.{Some};
 ghost use Rattle.std.specs.Options.{isSome};
 ghost use Rattle.std.specs.Results.{Cases};
+ghost use Rattle.locks.specs.Meaning.{reactions};
 ghost use Rattle.lowest.specs.FactViews.{fact-rules, fact-changes, Same-but-rules, Same-but-changes, Fresh-facts};
 ghost use Rattle.lowest.specs.Facts.{rule-in, change-in, rule-short, change-short, fact-range};
 use super::Change;
@@ -16,12 +17,15 @@ use crate::bits::valuations;
 use crate::table::at;
 use crate::table::blank;
 use crate::unmade::Unmade;
+use locks::lock::MOST_ACTS;
+use locks::lock::MOST_FACTS;
+use locks::lock::REACTIONS;
 use std::alloc::Global;
 
 fn in_range(facts: u8, acts: u8, first: u32) -> bool
     ensures { λ r. ⌜ r ≡ fact-range facts acts first ⌝ }
 {
-    1 <= facts && facts <= 12 && 1 <= acts && acts <= 31 && first < valuations(facts)
+    1 <= facts && facts <= MOST_FACTS && 1 <= acts && acts <= MOST_ACTS && first < valuations(facts)
 }
 
 fn short_rule(facts: u8, rule: Rule) -> bool
@@ -50,7 +54,7 @@ impl FactLock {
             return Err(Unmade::Range);
         }
         let rules = blank(heap, acts as usize)?;
-        let changes = blank(heap, acts as usize * 8)?;
+        let changes = blank(heap, acts as usize * REACTIONS as usize)?;
         Ok(FactLock {
             facts,
             acts,
@@ -71,8 +75,11 @@ impl FactLock {
     pub fn change(&self, act: u8, reaction: u8) -> Option<Change>
         ensures { λ r. ⌜ r ≡ change-in (fact-changes (now (self .entry))) act reaction ⌝ }
     {
-        if reaction < 8 {
-            at(&self.changes, act as usize * 8 + reaction as usize)
+        if reaction < REACTIONS {
+            at(
+                &self.changes,
+                act as usize * REACTIONS as usize + reaction as usize,
+            )
         } else {
             None
         }
@@ -95,19 +102,19 @@ impl FactLock {
     // Gives the act and the reaction their change; false, and nothing changed, if they are out of range,
     // a mask is too long, or they have one.
     pub fn add_change(&mut self, act: u8, reaction: u8, change: Change) -> bool
-        ensures answer { λ r. ⌜ r ≡ ((ltb act (now (self .entry) .acts) && ltb reaction 8) && (change-short (now (self .entry) .facts) change && not (isSome (change-in (fact-changes (now (self .entry))) act reaction)))) ⌝ }
-        ensures changes { λ r. ⌜ fact-changes (now (self .exit)) ≡ cond r (set (fact-changes (now (self .entry))) (act * 8 + reaction) (Some change)) (fact-changes (now (self .entry))) ⌝ }
+        ensures answer { λ r. ⌜ r ≡ ((ltb act (now (self .entry) .acts) && ltb reaction reactions) && (change-short (now (self .entry) .facts) change && not (isSome (change-in (fact-changes (now (self .entry))) act reaction)))) ⌝ }
+        ensures changes { λ r. ⌜ fact-changes (now (self .exit)) ≡ cond r (set (fact-changes (now (self .entry))) (act * reactions + reaction) (Some change)) (fact-changes (now (self .entry))) ⌝ }
         ensures rest { λ r. ⌜ Same-but-changes (now (self .entry)) (now (self .exit)) ⌝ }
         ensures kept { λ r. ⌜ (r ≡ false → now (self .exit) ≡ now (self .entry)) ⌝ }
     {
         if act >= self.acts
-            || reaction >= 8
+            || reaction >= REACTIONS
             || !short_change(self.facts, change)
             || self.change(act, reaction).is_some()
         {
             return false;
         }
-        self.changes[act as usize * 8 + reaction as usize] = Some(change);
+        self.changes[act as usize * REACTIONS as usize + reaction as usize] = Some(change);
         true
     }
 }

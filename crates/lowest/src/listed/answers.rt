@@ -1,11 +1,12 @@
 ghost use mathlib.Core.Path.{_≡_};
-ghost use Rattle.locks.specs.Meaning.{any-below};
+ghost use Rattle.locks.specs.Meaning.{any-below, reactions};
 ghost use Rattle.lowest.specs.Listed.{move-in, valuation-in};
 ghost use Rattle.lowest.specs.ListedViews.{listed-lock, listed-moves, listed-valuations};
 ghost use Rattle.std.specs.Options.{isSome};
 use super::ListedLock;
 use crate::bits::has_bit;
 use locks::lock::Lock;
+use locks::lock::REACTIONS;
 
 impl ListedLock {
     // The state's valuation; no fact holds in a state that is not listed yet.
@@ -21,9 +22,9 @@ impl ListedLock {
 
     // Whether the act has a move in the state.
     fn has_move(&self, state: u32, act: u8) -> bool
-        ensures { λ r. ⌜ r ≡ any-below 8 (λ e. isSome (move-in (now (self .entry) .acts) (listed-moves (now (self .entry))) state act e)) ⌝ }
+        ensures { λ r. ⌜ r ≡ any-below reactions (λ e. isSome (move-in (now (self .entry) .acts) (listed-moves (now (self .entry))) state act e)) ⌝ }
     {
-        for reaction in 0..8 {
+        for reaction in 0..REACTIONS {
             if self.move_to(state, act, reaction).is_some() {
                 return true;
             }
@@ -62,7 +63,7 @@ pub impl Lock for ListedLock as ListedLockAnswers {
     fn possible(&self, state: u32, act: u8, reaction: u8) -> bool {
         state < self.states
             && act < self.acts
-            && reaction < 8
+            && reaction < REACTIONS
             && self.move_to(state, act, reaction).is_some()
     }
 

@@ -7,24 +7,29 @@ ghost use Prim.Native.Nat.{_+_, _*_, _<_, _≤_};
 ghost use Rattle.std.specs.declared.option.Option.the-variants.{Some};
 ghost use Rattle.std.specs.Options.{isSome};
 ghost use Rattle.std.specs.Results.{Cases, isOk};
+ghost use Rattle.locks.specs.Meaning.{reactions};
 ghost use Rattle.lowest.specs.Listed.{move-place, move-in, listed-range};
 ghost use Rattle.lowest.specs.ListedViews.{listed-valuations, listed-moves, listable, Same-numbers, Fresh-listed};
 use super::ListedLock;
+use super::MOST_LISTED;
 use crate::bits::is_short;
 use crate::table::at;
 use crate::table::blank;
 use crate::unmade::Unmade;
+use locks::lock::MOST_ACTS;
+use locks::lock::MOST_FACTS;
+use locks::lock::REACTIONS;
 use std::alloc::Global;
 
 fn in_range(facts: u8, acts: u8, first: u32, states: u32) -> bool
     ensures { λ r. ⌜ r ≡ listed-range facts acts first states ⌝ }
 {
     1 <= facts
-        && facts <= 12
+        && facts <= MOST_FACTS
         && 1 <= acts
-        && acts <= 31
+        && acts <= MOST_ACTS
         && 1 <= states
-        && states <= 1_024
+        && states <= MOST_LISTED
         && first < states
 }
 
@@ -32,7 +37,7 @@ fn in_range(facts: u8, acts: u8, first: u32, states: u32) -> bool
 fn place(acts: u8, state: u32, act: u8, reaction: u8) -> usize
     ensures { λ r. ⌜ r ≡ move-place acts state act reaction ⌝ }
 {
-    (state as usize * acts as usize + act as usize) * 8 + reaction as usize
+    (state as usize * acts as usize + act as usize) * REACTIONS as usize + reaction as usize
 }
 
 impl ListedLock {
@@ -49,7 +54,7 @@ impl ListedLock {
         if !in_range(facts, acts, first, states) {
             return Err(Unmade::Range);
         }
-        let moves = blank(heap, states as usize * acts as usize * 8)?;
+        let moves = blank(heap, states as usize * acts as usize * REACTIONS as usize)?;
         let valuations = Vec::new(heap);
         Ok(ListedLock {
             facts,
@@ -88,7 +93,7 @@ impl ListedLock {
     pub fn move_to(&self, state: u32, act: u8, reaction: u8) -> Option<u32>
         ensures { λ r. ⌜ r ≡ move-in (now (self .entry) .acts) (listed-moves (now (self .entry))) state act reaction ⌝ }
     {
-        if act >= self.acts || reaction >= 8 {
+        if act >= self.acts || reaction >= REACTIONS {
             return None;
         }
         match at(&self.moves, place(self.acts, state, act, reaction)) {
@@ -100,13 +105,17 @@ impl ListedLock {
     // Gives the state, the act and the reaction their move; false, and nothing changed, if a number is out of range
     // or they have one.
     pub fn add_move(&mut self, state: u32, act: u8, reaction: u8, after: u32) -> bool
-        ensures answer { λ r. ⌜ r ≡ (((ltb state (now (self .entry) .states) && ltb act (now (self .entry) .acts)) && (ltb reaction 8 && ltb after (now (self .entry) .states))) && not (isSome (move-in (now (self .entry) .acts) (listed-moves (now (self .entry))) state act reaction))) ⌝ }
+        ensures answer { λ r. ⌜ r ≡ (((ltb state (now (self .entry) .states) && ltb act (now (self .entry) .acts)) && (ltb reaction reactions && ltb after (now (self .entry) .states))) && not (isSome (move-in (now (self .entry) .acts) (listed-moves (now (self .entry))) state act reaction))) ⌝ }
         ensures moves { λ r. ⌜ listed-moves (now (self .exit)) ≡ cond r (set (listed-moves (now (self .entry))) (move-place (now (self .entry) .acts) state act reaction) (Some after)) (listed-moves (now (self .entry))) ⌝ }
         ensures valuations { λ r. ⌜ listed-valuations (now (self .exit)) ≡ listed-valuations (now (self .entry)) ⌝ }
         ensures rest { λ r. ⌜ Same-numbers (now (self .entry)) (now (self .exit)) ⌝ }
         ensures kept { λ r. ⌜ (r ≡ false → now (self .exit) ≡ now (self .entry)) ⌝ }
     {
-        if state >= self.states || act >= self.acts || reaction >= 8 || after >= self.states {
+        if state >= self.states
+            || act >= self.acts
+            || reaction >= REACTIONS
+            || after >= self.states
+        {
             return false;
         }
         if self.move_to(state, act, reaction).is_some() {
