@@ -9,5 +9,5 @@ use Rattle.locks.specs.Meaning.{Meaning, Lawful}
 pub after-below-states : (m : Meaning) → Lawful m → (s a e : ℕ) → m .after s a e < m .states
 after-below-states m law s a e =
     ⊎-elim (law .after-below s a e)
-      (λ no. subst (λ (x : ℕ). x < m .states) (sym (law .after-impossible s a e no)) (law .some-states))
-      (cases-bool (m .possible s a e))
+    (λ no. subst (λ (x : ℕ). x < m .states) (sym (law .after-impossible s a e no)) (law .some-states))
+    (cases-bool (m .possible s a e))

@@ -30,30 +30,31 @@ module _ (m : Meaning) (k : Memory) (law : Lawful m) (sound : Sound k) where
 
   remembering-lawful : m .states * k .size ≤ most-states → Lawful (remembering m k)
   remembering-lawful few = record {
-      some-states = mul-pos (law .some-states) size-above-0;
-      few-states = few;
-      some-facts = law .some-facts;
-      few-facts = law .few-facts;
-      some-acts = law .some-acts;
-      few-acts = law .few-acts;
-      first-below = place-below (m .first) (k .start) (law .first-below) (sound .start-below);
-      possible-allowed = λ s a e p.
+    some-states = mul-pos (law .some-states) size-above-0;
+    few-states = few;
+    some-facts = law .some-facts;
+    few-facts = law .few-facts;
+    some-acts = law .some-acts;
+    few-acts = law .few-acts;
+    first-below = place-below (m .first) (k .start) (law .first-below) (sound .start-below);
+    possible-allowed = λ s a e p.
         let w = possible-parts s a e p in
         and-from (k .may (s % k .size) a) _ (w .0) (law .possible-allowed (s / k .size) a e (w .1));
-      after-below = λ s a e p.
+    after-below = λ s a e p.
         let w = possible-parts s a e p in
         subst (λ (x : ℕ). x < m .states * k .size) (sym (cond-true _ _ _ p))
-          (place-below (m .after (s / k .size) a e) (k .next (s % k .size) a e)
-            (law .after-below (s / k .size) a e (w .1))
-            (sound .next-below (s % k .size) a e (mod-lt s size-above-0)));
-      holds-within = λ s f h.
+        (place-below (m .after (s / k .size) a e) (k .next (s % k .size) a e)
+        (law .after-below (s / k .size) a e (w .1))
+        (sound .next-below (s % k .size) a e (mod-lt s size-above-0)));
+    holds-within = λ s f h.
         let w = law .holds-within (s / k .size) f h in
         (below-product s (w .0), w .1);
-      allowed-within = λ s a h.
+    allowed-within = λ s a h.
         let w = law .allowed-within (s / k .size) a (and-parts (k .may (s % k .size) a) _ h .1) in
         (below-product s (w .0), w .1);
-      possible-within = λ s a e p. law .possible-within (s / k .size) a e (possible-parts s a e p .1);
-      after-impossible = λ s a e p. cond-false _ _ _ p }
+    possible-within = λ s a e p. law .possible-within (s / k .size) a e (possible-parts s a e p .1);
+    after-impossible = λ s a e p. cond-false _ _ _ p;
+  }
 
   pub layered-lawful : Lawful (layered m k)
   layered-lawful =

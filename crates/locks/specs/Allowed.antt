@@ -39,11 +39,12 @@ unmarked-possible mark below a = any-below reactions (λ e. below e && not (mark
 -- or if no unmarked one is possible below; it lowers what is left by one, down to 0. An unmarked one is admitted and changes nothing.
 abbrev pub allowance : (ℕ → ℕ → Bool) → ℕ → Memory
 allowance mark k = record {
-    size = k + 1;
-    start = k;
-    may = λ left a. true;
-    admits = λ below left a e. not (mark a e) || (ltb 0 left || not (unmarked-possible mark below a));
-    next = λ left a e. cond (mark a e) (left - 1) left }
+  size = k + 1;
+  start = k;
+  may = λ left a. true;
+  admits = λ below left a e. not (mark a e) || (ltb 0 left || not (unmarked-possible mark below a));
+  next = λ left a e. cond (mark a e) (left - 1) left;
+}
 
 -- why an allowance over the lock is refused, if it is
 abbrev pub layer-fault : Meaning → ℕ → Option LayerFault

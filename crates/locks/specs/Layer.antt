@@ -21,17 +21,18 @@ admitted k below v a e = k .may v a && (below e && k .admits below v a e)
 -- The lock with its memory. The state is the state below × the size + the memory's value.
 abbrev pub remembering : Meaning → Memory → Meaning
 remembering m k = record {
-    states = m .states * k .size;
-    facts = m .facts;
-    acts = m .acts;
-    first = m .first * k .size + k .start;
-    holds = λ s f. m .holds (s / k .size) f;
-    allowed = λ s a. k .may (s % k .size) a && m .allowed (s / k .size) a;
-    possible = λ s a e. admitted k (m .possible (s / k .size) a) (s % k .size) a e;
-    after = λ s a e.
+  states = m .states * k .size;
+  facts = m .facts;
+  acts = m .acts;
+  first = m .first * k .size + k .start;
+  holds = λ s f. m .holds (s / k .size) f;
+  allowed = λ s a. k .may (s % k .size) a && m .allowed (s / k .size) a;
+  possible = λ s a e. admitted k (m .possible (s / k .size) a) (s % k .size) a e;
+  after = λ s a e.
       cond (admitted k (m .possible (s / k .size) a) (s % k .size) a e)
-        (m .after (s / k .size) a e * k .size + k .next (s % k .size) a e)
-        0 }
+      (m .after (s / k .size) a e * k .size + k .next (s % k .size) a e)
+      0;
+}
 
 -- whether the lock has no more states than a lock may have when each is taken as often as this
 abbrev pub fits : Meaning → ℕ → Bool
@@ -49,4 +50,4 @@ pub record Sound (k : Memory) : Type 0 where
 -- What makes a layer of any live lock live: of the possible reactions of an act that it lets be, one stays.
 pub record Lively (k : Memory) : Type 0 where
   pub leaves : (below : ℕ → Bool) (v a : ℕ) → k .may v a ≡ true
-    → any-below reactions below ≡ true → any-below reactions (admitted k below v a) ≡ true
+      → any-below reactions below ≡ true → any-below reactions (admitted k below v a) ≡ true

@@ -7,8 +7,14 @@ ghost use Rattle.locks.specs.Allowed.{marked, allowance, unmarked-possible, la
 ghost use Rattle.locks.specs.Layer.{layered, fits, admitted};
 use crate::lock::LiveLock;
 use crate::lock::Lock;
+use crate::lock::MOST_STATES;
+use crate::lock::NO_REACTION;
+use crate::lock::REACTIONS;
 use crate::marks::Marks;
 use crate::stuck::lowest_possible;
+
+// The most marked reactions that an allowance may bear.
+pub const MOST_BORNE: u8 = 7;
 
 // Why a layer is refused: the allowance is above 7, or the layer would have this many states, which are too many.
 #[derive(Clone, Copy)]
@@ -37,12 +43,18 @@ impl<L: Lock> Allowance<L> {
     pub fn new(lower: L, marks: Marks, most: u8) -> Result<Allowance<L>, RefusedLayer<L>>
         ensures { λ r. ⌜ Cases r (λ p. (layer-fault (L·Lock .meaning lower) most ≡ None) × (p .lower ≡ lower) × (p .marks ≡ marks) × (p .most ≡ most)) (λ e. (layer-fault (L·Lock .meaning lower) most ≡ Some (e .fault)) × (e .lower ≡ lower)) ⌝ }
     {
-        if most > 7 {
-            return Err(RefusedLayer { lower, fault: LayerFault::Allowance(most) });
+        if most > MOST_BORNE {
+            return Err(RefusedLayer {
+                lower,
+                fault: LayerFault::Allowance(most),
+            });
         }
         let states = lower.states() * (most as u32 + 1);
-        if states > 32_768 {
-            return Err(RefusedLayer { lower, fault: LayerFault::States(states) });
+        if states > MOST_STATES {
+            return Err(RefusedLayer {
+                lower,
+                fault: LayerFault::States(states),
+            });
         }
         Ok(Allowance { lower, marks, most })
     }
@@ -57,13 +69,13 @@ impl<L: Lock> Allowance<L> {
     fn fits(&self) -> bool
         ensures { λ r. ⌜ r ≡ fits (L·Lock .meaning (now (self .entry) .lower)) (now (self .entry) .most + 1) ⌝ }
     {
-        self.lower.states() * self.size() <= 32_768
+        self.lower.states() * self.size() <= MOST_STATES
     }
 
     fn unmarked_possible(&self, below: u32, act: u8) -> bool
         ensures { λ r. ⌜ r ≡ unmarked-possible (marked (now (self .entry) .marks)) (L·Lock .meaning (now (self .entry) .lower) .possible below act) act ⌝ }
     {
-        for reaction in 0..8 {
+        for reaction in 0..REACTIONS {
             if self.lower.possible(below, act, reaction) && !self.marks.has(act, reaction) {
                 return true;
             }
@@ -82,7 +94,11 @@ impl<L: Lock> Allowance<L> {
         ensures value { λ r. ⌜ r ≡ cond (marked (now (self .entry) .marks) act reaction) (left - 1) left ⌝ }
         ensures within { λ r. ⌜ r ≤ left ⌝ }
     {
-        if self.marks.has(act, reaction) { left.saturating_sub(1) } else { left }
+        if self.marks.has(act, reaction) {
+            left.saturating_sub(1)
+        } else {
+            left
+        }
     }
 }
 
@@ -92,7 +108,7 @@ pub impl<L: Lock> Lock for Allowance<L> as AllowanceLock {
     fn states(&self) -> u32 {
         let below = self.lower.states();
         let all = below * self.size();
-        if all <= 32_768 { all } else { below }
+        if all <= MOST_STATES { all } else { below }
     }
 
     fn facts(&self) -> u8 {
@@ -148,6 +164,6 @@ pub impl<L: Lock> Lock for Allowance<L> as AllowanceLock {
 
 pub impl<L: LiveLock> LiveLock for Allowance<L> as AllowanceLiveLock {
     fn named(&self, state: u32, act: u8) -> u8 {
-        lowest_possible(self, state, act).unwrap_or(255)
+        lowest_possible(self, state, act).unwrap_or(NO_REACTION)
     }
 }

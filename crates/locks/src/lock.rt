@@ -1,6 +1,18 @@
 ghost use mathlib.Core.Path.{_≡_};
 ghost use Rattle.locks.specs.Meaning.{Meaning, Lawful, Live, Named};
 
+// The most that a lock may have.
+pub const MOST_STATES: u32 = 32_768;
+
+pub const MOST_FACTS: u8 = 12;
+
+pub const MOST_ACTS: u8 = 31;
+
+// How many reactions an act may have, and the name of none of them.
+pub const REACTIONS: u8 = 8;
+
+pub const NO_REACTION: u8 = 255;
+
 // A lock, by its meaning. A question changes nothing; a number out of range gets no.
 pub trait Lock {
     ghost meaning: { Self → Meaning };

@@ -2,11 +2,15 @@ ghost use lib.ListN.{replicate, set};
 ghost use mathlib.Core.Bool.{true, false, _&&_, not, cond};
 ghost use mathlib.Core.Path.{_≡_};
 ghost use Prim.Native.Nat.{_+_, _*_};
+ghost use Rattle.locks.specs.Meaning.{most-acts, reactions};
 ghost use Rattle.locks.specs.Allowed.{marks-list, markable, marked};
+use crate::lock::MOST_ACTS;
+use crate::lock::REACTIONS;
 
+// Eight to each of 31 acts.
 const MARKS: usize = 248;
 
-// Which reactions of which acts are marked: eight of each of 31 acts.
+// Which reactions of which acts are marked.
 #[derive(Clone, Copy)]
 pub struct Marks {
     table: [bool; MARKS],
@@ -14,26 +18,30 @@ pub struct Marks {
 
 impl Marks {
     pub fn none() -> Marks
-        ensures { λ r. ⌜ marks-list r ≡ replicate 248 false ⌝ }
+        ensures { λ r. ⌜ marks-list r ≡ replicate (most-acts * reactions) false ⌝ }
     {
-        Marks { table: [false; MARKS] }
+        Marks {
+            table: [false; MARKS],
+        }
     }
 
     pub fn has(&self, act: u8, reaction: u8) -> bool
         ensures { λ r. ⌜ r ≡ marked (now (self .entry)) act reaction ⌝ }
     {
-        act < 31 && reaction < 8 && self.table[act as usize * 8 + reaction as usize]
+        act < MOST_ACTS
+            && reaction < REACTIONS
+            && self.table[act as usize * REACTIONS as usize + reaction as usize]
     }
 
     // Marks the reaction; false, and nothing changed, if it cannot be marked or is already.
     pub fn add(&mut self, act: u8, reaction: u8) -> bool
         ensures answer { λ r. ⌜ r ≡ (markable act reaction && not (marked (now (self .entry)) act reaction)) ⌝ }
-        ensures marks { λ r. ⌜ marks-list (now (self .exit)) ≡ cond r (set (marks-list (now (self .entry))) (act * 8 + reaction) true) (marks-list (now (self .entry))) ⌝ }
+        ensures marks { λ r. ⌜ marks-list (now (self .exit)) ≡ cond r (set (marks-list (now (self .entry))) (act * reactions + reaction) true) (marks-list (now (self .entry))) ⌝ }
     {
-        if act >= 31 || reaction >= 8 || self.has(act, reaction) {
+        if act >= MOST_ACTS || reaction >= REACTIONS || self.has(act, reaction) {
             return false;
         }
-        self.table[act as usize * 8 + reaction as usize] = true;
+        self.table[act as usize * REACTIONS as usize + reaction as usize] = true;
         true
     }
 }

@@ -5,6 +5,7 @@ ghost use Rattle.locks.specs.Meaning.{Live, reacts};
 ghost use Rattle.locks.specs.Stuck.{stuck, Lowest-possible, Lowest-stuck, First-stuck};
 ghost use Rattle.std.specs.Options.{Cases};
 use crate::lock::Lock;
+use crate::lock::REACTIONS;
 
 // An allowed act without a possible reaction, and the state in which it is so.
 #[derive(Clone, Copy)]
@@ -17,7 +18,7 @@ pub struct Stuck {
 pub fn lowest_possible<L: Lock>(lock: &L, state: u32, act: u8) -> Option<u8>
     ensures { λ r. ⌜ Cases r (reacts (L·Lock .meaning (now (lock .entry))) state act ≡ false) (Lowest-possible (L·Lock .meaning (now (lock .entry))) state act) ⌝ }
 {
-    for reaction in 0..8 {
+    for reaction in 0..REACTIONS {
         if lock.possible(state, act, reaction) {
             return Some(reaction);
         }

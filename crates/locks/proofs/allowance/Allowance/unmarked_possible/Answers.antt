@@ -15,5 +15,5 @@ returns-then-not-has g c =
     let mark = marked (p .marks) (c .args .act) in
     let h : e < 8 = omega arith in
     sym (any-from 8 (λ k. possible k && not (mark k)) e h
-      (and-from (possible e) (not (mark e)) (sym (c .if-possible .ensures tt))
-        (not-from-false (mark e) (sym (c .if-not-has .ensures tt)))))
+    (and-from (possible e) (not (mark e)) (sym {b = possible e} (c .if-possible .ensures tt))
+    (not-from-false (mark e) (sym {b = mark e} (c .if-not-has .ensures tt)))))

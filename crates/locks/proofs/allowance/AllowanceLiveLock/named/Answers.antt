@@ -14,7 +14,7 @@ returns g c =
     let m = g .L·Lock .meaning (p .lower) in
     let k = allowance (marked (p .marks)) (p .most) in
     subst (Named (layered m k) (c .args .state) (c .args .act)) (sym (c .unwrap-or .ensures))
-      (named-lowest (layered m k)
-        (layered-lawful m k (g .L·Lock·met .lawful (p .lower)) (allowance-sound (marked (p .marks)) (p .most)))
-        (layered-live m k (g .L·LiveLock·met .live (p .lower)) (allowance-lively (marked (p .marks)) (p .most)))
-        (c .args .state) (c .args .act) (c .lowest-possible .result) (c .lowest-possible .ensures))
+    (named-lowest (layered m k)
+    (layered-lawful m k (g .L·Lock·met .lawful (p .lower)) (allowance-sound (marked (p .marks)) (p .most)))
+    (layered-live m k (g .L·LiveLock·met .live (p .lower)) (allowance-lively (marked (p .marks)) (p .most)))
+    (c .args .state) (c .args .act) (c .lowest-possible .result) (c .lowest-possible .ensures))

@@ -6,4 +6,4 @@ use Rattle.locks.proofs.allowance.AllowanceLock.the-impl.Needs as need
 pub lawful-law : need.lawful-law
 lawful-law g p =
     layered-lawful (g .L·Lock .meaning (p .lower)) (allowance (marked (p .marks)) (p .most))
-      (g .L·Lock·met .lawful (p .lower)) (allowance-sound (marked (p .marks)) (p .most))
+    (g .L·Lock·met .lawful (p .lower)) (allowance-sound (marked (p .marks)) (p .most))

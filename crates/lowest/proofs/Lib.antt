@@ -1,0 +1,4 @@
+pub mod Tables
+pub mod FactLaws
+pub mod ListedLaws
+pub mod LowestLaws
