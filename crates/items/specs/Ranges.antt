@@ -27,23 +27,31 @@ within-facts facts bits = ltb bits (2 ^ facts)
 abbrev pub right-states : Header → Bool
 right-states h = cond (eqb (h .form) 1) (eqb (h .states) (2 ^ h .facts)) (leb 1 (h .states) && leb (h .states) most-listed)
 
-abbrev pub head-field : Header → Option ℕ
-head-field h =
-    first-bad ((0, eqb (h .form) 1 || eqb (h .form) 2) ∷ ((1, leb 1 (h .facts) && leb (h .facts) 12) ∷ ((2, leb 1 (h .acts) && leb (h .acts) 31)
-    ∷ ((3, right-states h) ∷ ((5, ltb (h .first) (h .states)) ∷ [])))))
+-- each field of a head with its test
+abbrev pub head-tests : Header → List (ℕ × Bool)
+head-tests h =
+    (0, eqb (h .form) 1 || eqb (h .form) 2) ∷ ((1, leb 1 (h .facts) && leb (h .facts) 12) ∷ ((2, leb 1 (h .acts) && leb (h .acts) 31)
+    ∷ ((3, right-states h) ∷ ((5, ltb (h .first) (h .states)) ∷ []))))
 
--- the offset of an item's first field out of range, under the head of its lock
+-- each field of an item with its test, under the head of its lock
+abbrev pub field-tests : Header → Entry → List (ℕ × Bool)
+field-tests h (head g) = head-tests g
+field-tests h (fact name) = []
+field-tests h (act name) = []
+field-tests h (rule a need lack) =
+    (0, ltb a (h .acts)) ∷ ((1, within-facts (h .facts) need) ∷ ((3, within-facts (h .facts) lack) ∷ []))
+field-tests h (change a e need lack set clear) =
+    (0, ltb a (h .acts)) ∷ ((1, ltb e 8) ∷ ((2, within-facts (h .facts) need) ∷ ((4, within-facts (h .facts) lack)
+    ∷ ((6, within-facts (h .facts) set) ∷ ((8, within-facts (h .facts) clear) ∷ [])))))
+field-tests h (state v) = (0, within-facts (h .facts) v) ∷ []
+field-tests h (move s a e t) = (0, ltb s (h .states)) ∷ ((2, ltb a (h .acts)) ∷ ((3, ltb e 8) ∷ ((4, ltb t (h .states)) ∷ [])))
+field-tests h (mark a e) = (0, ltb a (h .acts)) ∷ ((1, ltb e 8) ∷ [])
+field-tests h (allowance k) = (0, leb k 7) ∷ []
+field-tests h (routine text) = []
+
+-- the offset of the first field out of range
+abbrev pub head-field : Header → Option ℕ
+head-field h = first-bad (head-tests h)
+
 abbrev pub bad-field : Header → Entry → Option ℕ
-bad-field h (head g) = head-field g
-bad-field h (fact name) = None
-bad-field h (act name) = None
-bad-field h (rule a need lack) =
-    first-bad ((0, ltb a (h .acts)) ∷ ((1, within-facts (h .facts) need) ∷ ((3, within-facts (h .facts) lack) ∷ [])))
-bad-field h (change a e need lack set clear) =
-    first-bad ((0, ltb a (h .acts)) ∷ ((1, ltb e 8) ∷ ((2, within-facts (h .facts) need) ∷ ((4, within-facts (h .facts) lack)
-    ∷ ((6, within-facts (h .facts) set) ∷ ((8, within-facts (h .facts) clear) ∷ []))))))
-bad-field h (state v) = first-bad ((0, within-facts (h .facts) v) ∷ [])
-bad-field h (move s a e t) = first-bad ((0, ltb s (h .states)) ∷ ((2, ltb a (h .acts)) ∷ ((3, ltb e 8) ∷ ((4, ltb t (h .states)) ∷ []))))
-bad-field h (mark a e) = first-bad ((0, ltb a (h .acts)) ∷ ((1, ltb e 8) ∷ []))
-bad-field h (allowance k) = first-bad ((0, leb k 7) ∷ [])
-bad-field h (routine text) = None
+bad-field h i = first-bad (field-tests h i)

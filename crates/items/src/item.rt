@@ -4,7 +4,7 @@ ghost use Prim.Native.Nat.{ℕ, _+_, _<_, _≤_};
 ghost use lib.ListN.{length, getD};
 ghost use Rattle.std.specs.Options.{Cases as BySome};
 ghost use Rattle.items.specs.Kinds.{fits-length};
-ghost use Rattle.items.specs.Layout.{entry, header, word, said};
+ghost use Rattle.items.specs.Layout.{entry, header, word, said, kind-of-entry};
 use super::kind::Kind;
 use records::join;
 
@@ -106,5 +106,22 @@ impl Item<'_> {
             Kind::Allowance => Item::Allowance(body[0]),
             Kind::Routine => Item::Routine(body),
         })
+    }
+
+    pub fn kind(self) -> Kind
+        ensures { λ r. ⌜ r ≡ kind-of-entry (said (self .entry)) ⌝ }
+    {
+        match self {
+            Item::Head(_) => Kind::Head,
+            Item::Fact(_) => Kind::Fact,
+            Item::Act(_) => Kind::Act,
+            Item::Rule { .. } => Kind::Rule,
+            Item::Change { .. } => Kind::Change,
+            Item::State(_) => Kind::State,
+            Item::Move { .. } => Kind::Move,
+            Item::Mark { .. } => Kind::Mark,
+            Item::Allowance(_) => Kind::Allowance,
+            Item::Routine(_) => Kind::Routine,
+        }
     }
 }

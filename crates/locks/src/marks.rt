@@ -1,4 +1,4 @@
-ghost use lib.ListN.{replicate, set};
+ghost use lib.ListN.{length, replicate, set};
 ghost use mathlib.Core.Bool.{true, false, _&&_, not, cond};
 ghost use mathlib.Core.Path.{_≡_};
 ghost use Prim.Native.Nat.{_+_, _*_};
@@ -37,6 +37,7 @@ impl Marks {
     pub fn add(&mut self, act: u8, reaction: u8) -> bool
         ensures answer { λ r. ⌜ r ≡ (markable act reaction && not (marked (now (self .entry)) act reaction)) ⌝ }
         ensures marks { λ r. ⌜ marks-list (now (self .exit)) ≡ cond r (set (marks-list (now (self .entry))) (act * reactions + reaction) true) (marks-list (now (self .entry))) ⌝ }
+        ensures places { λ _. ⌜ length (marks-list (now (self .entry))) ≡ most-acts * reactions ⌝ }
     {
         if act >= MOST_ACTS || reaction >= REACTIONS || self.has(act, reaction) {
             return false;

@@ -1,0 +1,2 @@
+mod Inside
+mod Tables

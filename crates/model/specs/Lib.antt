@@ -1,0 +1,3 @@
+pub mod Contents
+pub mod Weigh
+pub mod Stands
