@@ -26,10 +26,10 @@ offsets-below : ℕ → List (ℕ × Bool) → Bool
 offsets-below n [] = true
 offsets-below n ((o, good) ∷ more) = ltb o n && offsets-below n more
 
-nothing-is-some : {X : Type 0} (x : X) → None ≡ Some x → ⊥
+pub nothing-is-some : {X : Type 0} (x : X) → None ≡ Some x → ⊥
 nothing-is-some x e = let z : _≡_ {A = ℕ} 0 1 = cc in omega arith
 
-error-is-ok : {X Y : Type 0} (y : Y) (x : X) → Err y ≡ Ok x → ⊥
+pub error-is-ok : {X Y : Type 0} (y : Y) (x : X) → Err y ≡ Ok x → ⊥
 error-is-ok y x e = let z : _≡_ {A = ℕ} 0 1 = cc in omega arith
 
 first-bad-below : (n : ℕ) (ts : List (ℕ × Bool)) → offsets-below n ts ≡ true → (o : ℕ) → first-bad ts ≡ Some o → o < n
@@ -61,9 +61,10 @@ field-inside h Allowance body o l e =
     omega (arith, eqb-true (length body) 1 l, first-bad-below 1 (field-tests h (entry Allowance body)) refl o e)
 field-inside h Routine body o l e = absurd (nothing-is-some o e)
 
--- an Ok behind three tests: the last one passed, and the value is the one given
-passed : {X Y : Type 0} (p q r : Bool) (x i : X) (e₁ e₂ e₃ : Y) → cond p (cond q (cond r (Ok x) (Err e₁)) (Err e₂)) (Err e₃) ≡ Ok i → (r ≡ true) × (x ≡ i)
-passed true true true x i e₁ e₂ e₃ h = (refl, cc)
+-- an Ok behind three tests: the first and the last passed, and the value is the one given
+pub passed : {X Y : Type 0} (p q r : Bool) (x i : X) (e₁ e₂ e₃ : Y) → cond p (cond q (cond r (Ok x) (Err e₁)) (Err e₂)) (Err e₃) ≡ Ok i →
+  (r ≡ true) × (x ≡ i) × (p ≡ true)
+passed true true true x i e₁ e₂ e₃ h = (refl, cc, refl)
 passed true true false x i e₁ e₂ e₃ h = absurd (error-is-ok e₁ i h)
 passed true false r x i e₁ e₂ e₃ h = absurd (error-is-ok e₂ i h)
 passed false q r x i e₁ e₂ e₃ h = absurd (error-is-ok e₃ i h)

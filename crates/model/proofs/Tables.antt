@@ -10,7 +10,7 @@ use lib.Dec.{eqb, ltb}
 use lib.ListN.{length, getD, set, replicate}
 use Rattle.std.proofs.shelf.Bits.{div-mul-add, mod-mul-add, mul-add-lt}
 use Rattle.std.proofs.shelf.Lists.{getD-set-same, getD-set-other}
-use Rattle.std.proofs.shelf.Tests.{cases-bool, cond-true, cond-false, and-from, and-left, or-left}
+use Rattle.std.proofs.shelf.Tests.{cases-bool, cond-true, cond-false, and-from, and-left, and-right, or-left}
 use Rattle.std.proofs.shelf.Ways.{tells}
 use Rattle.std.specs.declared.option.Option.{Option}
 use Rattle.std.specs.declared.option.Option.the-variants.{Some, None}
@@ -87,6 +87,14 @@ module _ (acts : ℕ) (ms : List (Option ℕ)) (old : List (ℕ × ℕ × ℕ ×
                 grind (arith, tells) in
               ap (λ v. cond (ltb a acts && ltb e 8) v None) (getD-set-other ms (move-place acts r b d) (move-place acts s a e) (Some t) None apart)
           | inr g ↦ cond-false _ _ _ g ∙ sym (cond-false _ _ _ g) ]
+
+all-false : (n i : ℕ) → getD (replicate n false) i false ≡ false
+all-false zero i = refl
+all-false (suc n) zero = refl
+all-false (suc n) (suc i) = all-false n i
+
+pub unmarked : (n a e : ℕ) → marked-in (replicate n false) a e ≡ false
+unmarked n a e = and-right _ _ (all-false n (a * 8 + e))
 
 -- one mark more
 module _ (xs : List Bool) (old : List (ℕ × ℕ)) (b d : ℕ) (hb : b < 31) (hd : d < 8) (within : b * 8 + d < length xs) where

@@ -1,3 +1,4 @@
 pub mod Contents
 pub mod Weigh
 pub mod Stands
+pub mod Closing

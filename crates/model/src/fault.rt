@@ -1,5 +1,6 @@
 ghost use mathlib.Core.Path.{_≡_};
 ghost use Rattle.model.specs.declared.fault.ModelFault.the-variants.{Record, Memory};
+use locks::allowance::LayerFault;
 use records::RecordFault;
 use std::alloc::AllocError;
 
@@ -20,6 +21,8 @@ pub enum ModelFault {
     Missing(usize),
     // An act that is allowed in a state and has no reaction there.
     Stuck { act: u8, state: u32 },
+    // The layer over the lowest lock.
+    Layer(LayerFault),
     // No memory for what the file says: no fault of the file.
     Memory,
 }

@@ -2,3 +2,4 @@
 pub mod draft;
 pub mod fault;
 mod low;
+pub mod model;

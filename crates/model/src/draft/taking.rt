@@ -1,14 +1,14 @@
 ghost use mathlib.Core.Path.{_≡_};
 ghost use mathlib.Core.Bool.{true, false};
 ghost use mathlib.Core.Logic.{_⊎_};
-ghost use Prim.Native.Nat.{ℕ, _+_, _^_, _<_};
-ghost use lib.ListN.{length};
+ghost use Prim.Native.Nat.{ℕ, _+_, _-_, _^_, _<_};
+ghost use lib.ListN.{length as size};
 ghost use Rattle.std.specs.declared.result.Result.the-variants.{Ok, Err};
 ghost use Rattle.std.specs.Results.{Cases};
 ghost use Rattle.words.specs.Listed.{name-list};
 ghost use Rattle.items.specs.Layout.{Entry, said};
 ghost use Rattle.model.specs.Contents.{Contents, silence, with-item};
-ghost use Rattle.model.specs.Weigh.{opening, misnamed, name-fault, too-often, weigh};
+ghost use Rattle.model.specs.Weigh.{begin, misnamed, name-fault, too-often, weigh, turn};
 ghost use Rattle.model.specs.Stands.{Stands, Fit};
 use super::super::fault::ModelFault;
 use super::super::fault::ModelFromAlloc;
@@ -23,6 +23,7 @@ use items::range::head_field;
 use locks::marks::Marks;
 use lowest::facts::Change;
 use lowest::facts::Rule;
+use records::split;
 use std::alloc::Global;
 use words::is_name;
 use words::names::Names;
@@ -81,7 +82,7 @@ impl<'a> Draft<'a> {
 
     // What the record says, if it may stand where it stands.
     fn weigh(&self, at: usize, kind: u16, body: &'a [u8]) -> Result<Item<'a>, ModelFault>
-        requires { ⌜ at + 4 + length (now body) < 2 ^ 64 ⌝ }
+        requires { ⌜ at + 4 + size (now body) < 2 ^ 64 ⌝ }
         ensures { λ r. ⌜ ((c : Contents) → Stands (now (self .entry)) c → Cases r (λ i. weigh (now (self .entry) .head) c at kind (now (body .entry)) ≡ Ok (said i)) (λ f. weigh (now (self .entry) .head) c at kind (now (body .entry)) ≡ Err f)) ⌝ }
     {
         let item = place(self.head.form, self.group, at, kind, body)?;
@@ -123,5 +124,41 @@ impl<'a> Draft<'a> {
             Item::Routine(text) => self.text = Some(text),
         }
         Ok(())
+    }
+
+    // The draft of a file that begins with a head, and the bytes behind the head.
+    pub fn begin(heap: Global, file: &'a [u8]) -> Result<(Draft<'a>, &'a [u8]), ModelFault>
+        ensures { λ r. ⌜ Cases r (λ p. (begin (now (file .entry)) ≡ Ok (p .0 .head, now (p .1))) × Stands (p .0) silence) (λ f. (f ≡ ModelFault.Memory) ⊎ (begin (now (file .entry)) ≡ Err f)) ⌝ }
+    {
+        let record = split(file, 0)?;
+        let head = open(0, record.kind, record.body)?;
+        if let Some(field) = head_field(&head) {
+            return Err(ModelFault::Field(PREFIX + field));
+        }
+        let lowest = low::open(heap, &head)?;
+        let draft = Draft {
+            head,
+            group: 0,
+            facts: Names::new(heap),
+            acts: Names::new(heap),
+            lowest,
+            moves: 0,
+            marks: Marks::none(),
+            allowance: None,
+            text: None,
+        };
+        Ok((draft, record.rest))
+    }
+
+    // Takes the record at the front of the bytes, which end a file of this length, and gives the bytes behind it.
+    pub fn next(&mut self, heap: Global, length: usize, bytes: &'a [u8]) -> Result<&'a [u8], ModelFault>
+        ensures head { λ _. ⌜ now (self .exit) .head ≡ now (self .entry) .head ⌝ }
+        ensures stands { λ r. ⌜ ((c : Contents) → Stands (now (self .entry)) c → Cases r (λ more. (i : Entry) × (turn (now (self .entry) .head) c (length - size (now (bytes .entry))) (now (bytes .entry)) ≡ Ok (i, now more)) × Stands (now (self .exit)) (with-item c i)) (λ f. (f ≡ ModelFault.Memory) ⊎ (turn (now (self .entry) .head) c (length - size (now (bytes .entry))) (now (bytes .entry)) ≡ Err f))) ⌝ }
+    {
+        let at = length.saturating_sub(bytes.len());
+        let record = split(bytes, at)?;
+        let item = self.weigh(at, record.kind, record.body)?;
+        self.enter(heap, item)?;
+        Ok(record.rest)
     }
 }
