@@ -94,18 +94,32 @@ impl Item<'_> {
         if !kind.fits_length(body.len()) {
             return None;
         }
-        Some(match kind {
-            Kind::Head => Item::Head(header_in(body)),
-            Kind::Fact => Item::Fact(body),
-            Kind::Act => Item::Act(body),
-            Kind::Rule => Item::Rule { act: body[0], need: word_at(body, 1), lack: word_at(body, 3) },
-            Kind::Change => change_in(body),
-            Kind::State => Item::State(word_at(body, 0)),
-            Kind::Move => Item::Move { state: word_at(body, 0), act: body[2], reaction: body[3], after: word_at(body, 4) },
-            Kind::Mark => Item::Mark { act: body[0], reaction: body[1] },
-            Kind::Allowance => Item::Allowance(body[0]),
-            Kind::Routine => Item::Routine(body),
-        })
+        Some(
+            match kind {
+                Kind::Head => Item::Head(header_in(body)),
+                Kind::Fact => Item::Fact(body),
+                Kind::Act => Item::Act(body),
+                Kind::Rule => Item::Rule {
+                    act: body[0],
+                    need: word_at(body, 1),
+                    lack: word_at(body, 3),
+                },
+                Kind::Change => change_in(body),
+                Kind::State => Item::State(word_at(body, 0)),
+                Kind::Move => Item::Move {
+                    state: word_at(body, 0),
+                    act: body[2],
+                    reaction: body[3],
+                    after: word_at(body, 4),
+                },
+                Kind::Mark => Item::Mark {
+                    act: body[0],
+                    reaction: body[1],
+                },
+                Kind::Allowance => Item::Allowance(body[0]),
+                Kind::Routine => Item::Routine(body),
+            },
+        )
     }
 
     pub fn kind(self) -> Kind

@@ -23,7 +23,13 @@ pub fn open(at: usize, kind: u16, body: &[u8]) -> Result<Header, RecordFault>
 }
 
 // What a later record says, under the form of the file's lock and the group of the record before it.
-pub fn place(form: u8, group: u8, at: usize, kind: u16, body: &[u8]) -> Result<Item<'_>, RecordFault>
+pub fn place(
+    form: u8,
+    group: u8,
+    at: usize,
+    kind: u16,
+    body: &[u8],
+) -> Result<Item<'_>, RecordFault>
     ensures { λ r. ⌜ Cases r (λ i. placed form group at kind (now (body .entry)) ≡ Ok (said i)) (λ f. placed form group at kind (now (body .entry)) ≡ Err f) ⌝ }
 {
     let Some(k) = Kind::of(kind) else {

@@ -10,9 +10,13 @@ use super::item::Header;
 use super::item::Item;
 
 const MOST_FACTS: u8 = 12;
+
 const MOST_ACTS: u8 = 31;
+
 const MOST_LISTED: u16 = 1024;
+
 const REACTIONS: u8 = 8;
+
 const MOST_ALLOWANCE: u8 = 7;
 
 // The offset of the first field that failed its test.
@@ -54,48 +58,56 @@ fn right_states(head: &Header) -> bool
 pub fn head_field(head: &Header) -> Option<usize>
     ensures { λ r. ⌜ r ≡ head-field (now (head .entry)) ⌝ }
 {
-    first_bad(&[
-        (0, head.form == 1 || head.form == 2),
-        (1, head.facts >= 1 && head.facts <= MOST_FACTS),
-        (2, head.acts >= 1 && head.acts <= MOST_ACTS),
-        (3, right_states(head)),
-        (5, head.first < head.states),
-    ])
+    first_bad(
+        &[
+            (0, head.form == 1 || head.form == 2),
+            (1, head.facts >= 1 && head.facts <= MOST_FACTS),
+            (2, head.acts >= 1 && head.acts <= MOST_ACTS),
+            (3, right_states(head)),
+            (5, head.first < head.states),
+        ],
+    )
 }
 
 fn change_field(head: &Header, act: u8, reaction: u8, masks: [u16; 4]) -> Option<usize>
     ensures { λ r. ⌜ r ≡ bad-field (now (head .entry)) (change act reaction (getD masks 0 0) (getD masks 1 0) (getD masks 2 0) (getD masks 3 0)) ⌝ }
 {
     let facts = head.facts;
-    first_bad(&[
-        (0, act < head.acts),
-        (1, reaction < REACTIONS),
-        (2, within_facts(facts, masks[0])),
-        (4, within_facts(facts, masks[1])),
-        (6, within_facts(facts, masks[2])),
-        (8, within_facts(facts, masks[3])),
-    ])
+    first_bad(
+        &[
+            (0, act < head.acts),
+            (1, reaction < REACTIONS),
+            (2, within_facts(facts, masks[0])),
+            (4, within_facts(facts, masks[1])),
+            (6, within_facts(facts, masks[2])),
+            (8, within_facts(facts, masks[3])),
+        ],
+    )
 }
 
 fn move_field(head: &Header, from: u16, act: u8, reaction: u8, after: u16) -> Option<usize>
     ensures { λ r. ⌜ r ≡ bad-field (now (head .entry)) (move from act reaction after) ⌝ }
 {
-    first_bad(&[
-        (0, from < head.states),
-        (2, act < head.acts),
-        (3, reaction < REACTIONS),
-        (4, after < head.states),
-    ])
+    first_bad(
+        &[
+            (0, from < head.states),
+            (2, act < head.acts),
+            (3, reaction < REACTIONS),
+            (4, after < head.states),
+        ],
+    )
 }
 
 fn rule_field(head: &Header, act: u8, need: u16, lack: u16) -> Option<usize>
     ensures { λ r. ⌜ r ≡ bad-field (now (head .entry)) (rule act need lack) ⌝ }
 {
-    first_bad(&[
-        (0, act < head.acts),
-        (1, within_facts(head.facts, need)),
-        (3, within_facts(head.facts, lack)),
-    ])
+    first_bad(
+        &[
+            (0, act < head.acts),
+            (1, within_facts(head.facts, need)),
+            (3, within_facts(head.facts, lack)),
+        ],
+    )
 }
 
 // The offset of the first field of an item that is out of range under this head.
@@ -106,12 +118,24 @@ pub fn bad_field(head: &Header, item: Item<'_>) -> Option<usize>
         Item::Head(other) => head_field(&other),
         Item::Fact(_) | Item::Act(_) | Item::Routine(_) => None,
         Item::Rule { act, need, lack } => rule_field(head, act, need, lack),
-        Item::Change { act, reaction, need, lack, set, clear } => {
-            change_field(head, act, reaction, [need, lack, set, clear])
-        }
+        Item::Change {
+            act,
+            reaction,
+            need,
+            lack,
+            set,
+            clear,
+        } => { change_field(head, act, reaction, [need, lack, set, clear]) }
         Item::State(valuation) => first_bad(&[(0, within_facts(head.facts, valuation))]),
-        Item::Move { state, act, reaction, after } => move_field(head, state, act, reaction, after),
-        Item::Mark { act, reaction } => first_bad(&[(0, act < head.acts), (1, reaction < REACTIONS)]),
+        Item::Move {
+            state,
+            act,
+            reaction,
+            after,
+        } => move_field(head, state, act, reaction, after),
+        Item::Mark { act, reaction } => first_bad(
+            &[(0, act < head.acts), (1, reaction < REACTIONS)],
+        ),
         Item::Allowance(k) => first_bad(&[(0, k <= MOST_ALLOWANCE)]),
     }
 }

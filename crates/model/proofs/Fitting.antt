@@ -52,13 +52,13 @@ weighed-name-good (Some f) h c at i j e = absurd (error-is-ok _ j e)
 weighed-name-good None h c at i j e = weighed-often-good (too-often h c i) at i j e
 
 weighed-field-good : (o : Option ℕ) (h : Header) (c : Contents) (at : ℕ) (i j : Entry) → weighed-field o h c at i ≡ Ok j →
-  (o ≡ None) × (too-often h c i ≡ false) × (i ≡ j)
+    (o ≡ None) × (too-often h c i ≡ false) × (i ≡ j)
 weighed-field-good (Some o) h c at i j e = absurd (error-is-ok _ j e)
 weighed-field-good None h c at i j e =
     let g = weighed-name-good (name-fault (c .facts) (c .acts) at i) h c at i j e in (refl, g .0, g .1)
 
 weighed-fit : (p : Result Entry RecordFault) (h : Header) (c : Contents) (at : ℕ) (j : Entry) →
-  ((i : Entry) → p ≡ Ok i → of-form (kind-of-entry i) (h .form) ≡ true) → weighed h c at p ≡ Ok j → Fit h c j
+    ((i : Entry) → p ≡ Ok i → of-form (kind-of-entry i) (h .form) ≡ true) → weighed h c at p ≡ Ok j → Fit h c j
 weighed-fit (Err f) h c at j formed e = absurd (error-is-ok _ j e)
 weighed-fit (Ok i) h c at j formed e =
     let g = weighed-field-good (bad-field h i) h c at i j e in
@@ -71,7 +71,7 @@ weigh-fit h c at kind body i e =
 
 -- the turn of a whole record that was weighed and found good
 pub turn-good :
-  (h : Header) (c : Contents) (at place : ℕ) (bytes : List ℕ) (kind : ℕ) (body rest : List ℕ) (i : Entry) → at ≡ place →
-  front bytes ≡ whole kind body rest → weigh h c at kind body ≡ Ok i → turn h c place bytes ≡ Ok (i, rest)
+    (h : Header) (c : Contents) (at place : ℕ) (bytes : List ℕ) (kind : ℕ) (body rest : List ℕ) (i : Entry) → at ≡ place →
+    front bytes ≡ whole kind body rest → weigh h c at kind body ≡ Ok i → turn h c place bytes ≡ Ok (i, rest)
 turn-good h c at place bytes kind body rest i here e w =
     ap (λ f. turn-at f h c place) e ∙ ap (λ r. turned r rest) (subst (λ p. weigh h c p kind body ≡ Ok i) here w)

@@ -63,19 +63,19 @@ field-inside h Routine body o l e = absurd (nothing-is-some o e)
 
 -- an Ok behind three tests: the first and the last passed, and the value is the one given
 pub passed : {X Y : Type 0} (p q r : Bool) (x i : X) (e₁ e₂ e₃ : Y) → cond p (cond q (cond r (Ok x) (Err e₁)) (Err e₂)) (Err e₃) ≡ Ok i →
-  (r ≡ true) × (x ≡ i) × (p ≡ true)
+    (r ≡ true) × (x ≡ i) × (p ≡ true)
 passed true true true x i e₁ e₂ e₃ h = (refl, cc, refl)
 passed true true false x i e₁ e₂ e₃ h = absurd (error-is-ok e₁ i h)
 passed true false r x i e₁ e₂ e₃ h = absurd (error-is-ok e₂ i h)
 passed false q r x i e₁ e₂ e₃ h = absurd (error-is-ok e₃ i h)
 
 placed-field-inside : (form group at : ℕ) (body : List ℕ) (k : Option Kind) (i : Entry) → placed-as form group at body k ≡ Ok i →
-  (h : Header) (o : ℕ) → bad-field h i ≡ Some o → o < length body
+    (h : Header) (o : ℕ) → bad-field h i ≡ Some o → o < length body
 placed-field-inside form group at body None i e h o b = absurd (error-is-ok _ i e)
 placed-field-inside form group at body (Some k) i e h o b =
     let p = passed (of-form k form) (leb group (group-of k)) (fits-length k (length body)) (entry k body) i _ _ _ e in
     field-inside h k body o (p .0) (ap (bad-field h) (p .1) ∙ b)
 
 pub bad-field-inside : (form group at kind : ℕ) (body : List ℕ) (i : Entry) → placed form group at kind body ≡ Ok i →
-  (h : Header) (o : ℕ) → bad-field h i ≡ Some o → o < length body
+    (h : Header) (o : ℕ) → bad-field h i ≡ Some o → o < length body
 bad-field-inside form group at kind body i e h o b = placed-field-inside form group at body (kind-of kind) i e h o b

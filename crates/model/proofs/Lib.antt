@@ -1,3 +1,4 @@
+mod Ending
 mod Fitting
 mod Inside
 mod Tables

@@ -3,6 +3,7 @@ use locks::marks::Marks;
 use lowest::lowest::Lowest;
 use words::names::Names;
 
+mod closing;
 mod taking;
 
 // What the records of a file have said so far: the head, the group of the last record, the names,

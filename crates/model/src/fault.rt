@@ -1,6 +1,7 @@
 ghost use mathlib.Core.Path.{_≡_};
-ghost use Rattle.model.specs.declared.fault.ModelFault.the-variants.{Record, Memory};
+ghost use Rattle.model.specs.declared.fault.ModelFault.the-variants.{Record, Stuck, Layer, Memory};
 use locks::allowance::LayerFault;
+use locks::stuck;
 use records::RecordFault;
 use std::alloc::AllocError;
 
@@ -40,5 +41,24 @@ pub impl From<AllocError> for ModelFault as ModelFromAlloc {
 
     fn from(_e: AllocError) -> ModelFault {
         ModelFault::Memory
+    }
+}
+
+pub impl From<stuck::Stuck> for ModelFault as ModelFromStuck {
+    ghost converts = { λ e r. r ≡ Stuck (e .act) (e .state) };
+
+    fn from(e: stuck::Stuck) -> ModelFault {
+        ModelFault::Stuck {
+            act: e.act,
+            state: e.state,
+        }
+    }
+}
+
+pub impl From<LayerFault> for ModelFault as ModelFromLayer {
+    ghost converts = { λ e r. r ≡ Layer e };
+
+    fn from(e: LayerFault) -> ModelFault {
+        ModelFault::Layer(e)
     }
 }

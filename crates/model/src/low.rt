@@ -9,6 +9,9 @@ ghost use Rattle.std.specs.declared.option.Option.the-variants.{None};
 ghost use Rattle.items.specs.Layout.Entry.{rule, change, state, move};
 ghost use Rattle.items.specs.Ranges.{head-field};
 ghost use Rattle.model.specs.Contents.{Contents, silence, with-item, rule-of, change-of, move-of};
+ghost use Rattle.lowest.specs.Facts.{rule-in};
+ghost use Rattle.lowest.specs.FactViews.{fact-rules};
+ghost use Rattle.model.specs.Closing.{all-below, lock-lacking};
 ghost use Rattle.model.specs.Stands.{Lowest-stands, Fit};
 ghost use Rattle.items.specs.declared.item.Header.{Header as Head};
 use super::fault::ModelFault;
@@ -118,5 +121,28 @@ pub(crate) fn add_move(lowest: &mut Lowest, from: u16, act: u8, reaction: u8, af
             lock.add_move(from as u32, act, reaction, after as u32);
         }
         _ => {}
+    }
+}
+
+// Whether each of so many acts has a rule.
+fn all_ruled(lock: &FactLock, acts: u8) -> bool
+    ensures { λ r. ⌜ r ≡ all-below acts (λ a. isSome (rule-in (fact-rules (now (lock .entry))) a)) ⌝ }
+{
+    for act in 0..acts {
+        if lock.rule(act).is_none() {
+            return false;
+        }
+    }
+    true
+}
+
+// Whether a rule of an act, or a state, never came.
+pub(crate) fn lacks(lowest: &Lowest, head: &Header) -> bool
+    ensures { λ r. ⌜ ((c : Contents) → Lowest-stands (now (lowest .entry)) (now (head .entry)) c → r ≡ lock-lacking (now (head .entry)) c) ⌝ }
+{
+    match lowest {
+        Lowest::Empty => false,
+        Lowest::Facts(lock) => !all_ruled(lock, head.acts),
+        Lowest::Listed(lock) => lock.listed() < head.states as u32,
     }
 }

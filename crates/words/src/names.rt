@@ -21,7 +21,9 @@ impl Names {
     pub fn new(heap: Global) -> Names
         ensures { λ r. ⌜ name-list r ≡ [] ⌝ }
     {
-        Names { list: Vec::new(heap) }
+        Names {
+            list: Vec::new(heap),
+        }
     }
 
     pub fn count(&self) -> usize

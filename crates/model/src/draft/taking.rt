@@ -71,9 +71,12 @@ impl<'a> Draft<'a> {
             Item::Rule { act, .. } => low::has_rule(&self.lowest, act),
             Item::Change { act, reaction, .. } => low::has_change(&self.lowest, act, reaction),
             Item::State(_) => low::listed(&self.lowest) >= self.head.states as u32,
-            Item::Move { state, act, reaction, .. } => {
-                low::has_move(&self.lowest, state, act, reaction) || self.moves >= MOST_MOVES
-            }
+            Item::Move {
+                state,
+                act,
+                reaction,
+                ..
+            } => { low::has_move(&self.lowest, state, act, reaction) || self.moves >= MOST_MOVES }
             Item::Mark { act, reaction } => self.marks.has(act, reaction),
             Item::Allowance(_) => self.allowance.is_some(),
             Item::Routine(_) => self.text.is_some(),
@@ -108,12 +111,38 @@ impl<'a> Draft<'a> {
             Item::Head(_) => {}
             Item::Fact(name) => self.facts.add(heap, name)?,
             Item::Act(name) => self.acts.add(heap, name)?,
-            Item::Rule { act, need, lack } => low::add_rule(&mut self.lowest, act, Rule { need, lack }),
-            Item::Change { act, reaction, need, lack, set, clear } => {
-                low::add_change(&mut self.lowest, act, reaction, Change { need, lack, set, clear })
+            Item::Rule { act, need, lack } => low::add_rule(
+                &mut self.lowest,
+                act,
+                Rule { need, lack },
+            ),
+            Item::Change {
+                act,
+                reaction,
+                need,
+                lack,
+                set,
+                clear,
+            } => {
+                low::add_change(
+                    &mut self.lowest,
+                    act,
+                    reaction,
+                    Change {
+                        need,
+                        lack,
+                        set,
+                        clear,
+                    },
+                )
             }
             Item::State(valuation) => low::add_state(&mut self.lowest, valuation)?,
-            Item::Move { state, act, reaction, after } => {
+            Item::Move {
+                state,
+                act,
+                reaction,
+                after,
+            } => {
                 low::add_move(&mut self.lowest, state, act, reaction, after);
                 self.moves = self.moves.saturating_add(1);
             }
@@ -151,7 +180,12 @@ impl<'a> Draft<'a> {
     }
 
     // Takes the record at the front of the bytes, which end a file of this length, and gives the bytes behind it.
-    pub fn next(&mut self, heap: Global, length: usize, bytes: &'a [u8]) -> Result<&'a [u8], ModelFault>
+    pub fn next(
+        &mut self,
+        heap: Global,
+        length: usize,
+        bytes: &'a [u8],
+    ) -> Result<&'a [u8], ModelFault>
         ensures head { λ _. ⌜ now (self .exit) .head ≡ now (self .entry) .head ⌝ }
         ensures stands { λ r. ⌜ ((c : Contents) → Stands (now (self .entry)) c → Cases r (λ more. (i : Entry) × (turn (now (self .entry) .head) c (length - size (now (bytes .entry))) (now (bytes .entry)) ≡ Ok (i, now more)) × Stands (now (self .exit)) (with-item c i)) (λ f. (f ≡ ModelFault.Memory) ⊎ (turn (now (self .entry) .head) c (length - size (now (bytes .entry))) (now (bytes .entry)) ≡ Err f))) ⌝ }
     {

@@ -23,14 +23,15 @@ returns-in-Listed c = λ h k s f.
     let ms : listed-moves new ≡ set (listed-moves old) (move-place (old .acts) (c .args .from) (c .args .act) (c .args .reaction)) (Some (c .args .after)) = search needs in
     let within : move-place (old .acts) (c .args .from) (c .args .act) (c .args .reaction) < length (listed-moves old) = omega (arith, place-within (old .acts) (old .states) (c .args .from) (c .args .act) (c .args .reaction) hs ha he, old .sizes .1, old .moves .ok .0) in
     record {
-        form = search needs;
-        facts = search needs;
-        acts = search needs;
-        first = search needs;
-        states = search needs;
-        valuations = search needs;
-        moves = λ x a e.
+      form = search needs;
+      facts = search needs;
+      acts = search needs;
+      first = search needs;
+      states = search needs;
+      valuations = search needs;
+      moves = λ x a e.
           ap₂ (λ n l. move-in n l x a e) (c .add-move .ensures .rest .acts) ms
           ∙ move-more (old .acts) (listed-moves old) (k .moves) (c .args .from) (c .args .act) (c .args .reaction) (c .args .after) ha he within (st .moves) x a e;
-        no-rules = search needs;
-        no-changes = search needs }
+      no-rules = search needs;
+      no-changes = search needs;
+    }

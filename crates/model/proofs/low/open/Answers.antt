@@ -11,25 +11,27 @@ pub returns-in-Ok : need.returns-in-Ok
 returns-in-Ok c =
     let fresh = c .in-Ok .ensures tt .1 in
     record {
-        form = c .if-head-eq1 .taken;
-        facts = fresh .facts;
-        acts = fresh .acts;
-        first = fresh .first;
-        rules = λ a. ap (λ l. rule-in l a) (fresh .rules) ∙ nothing-at _ a;
-        changes = λ a e. ap (λ l. change-in l a e) (fresh .changes) ∙ no-change-at _ a e;
-        no-valuations = search needs;
-        no-moves = search needs }
+      form = c .if-head-eq1 .taken;
+      facts = fresh .facts;
+      acts = fresh .acts;
+      first = fresh .first;
+      rules = λ a. ap (λ l. rule-in l a) (fresh .rules) ∙ nothing-at _ a;
+      changes = λ a e. ap (λ l. change-in l a e) (fresh .changes) ∙ no-change-at _ a e;
+      no-valuations = search needs;
+      no-moves = search needs;
+    }
 
 pub returns-in-Ok-new : need.returns-in-Ok-new
 returns-in-Ok-new c =
     let fresh = c .in-Ok-new .ensures tt .1 in
     record {
-        form = search needs;
-        facts = fresh .facts;
-        acts = fresh .acts;
-        first = fresh .first;
-        states = fresh .states;
-        valuations = fresh .valuations;
-        moves = λ s a e. ap (λ l. move-in (c .in-Ok-new .lock .acts) l s a e) (fresh .moves) ∙ no-move-at _ _ s a e;
-        no-rules = search needs;
-        no-changes = search needs }
+      form = search needs;
+      facts = fresh .facts;
+      acts = fresh .acts;
+      first = fresh .first;
+      states = fresh .states;
+      valuations = fresh .valuations;
+      moves = λ s a e. ap (λ l. move-in (c .in-Ok-new .lock .acts) l s a e) (fresh .moves) ∙ no-move-at _ _ s a e;
+      no-rules = search needs;
+      no-changes = search needs;
+    }

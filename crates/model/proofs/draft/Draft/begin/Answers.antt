@@ -5,7 +5,9 @@ use Rattle.model.proofs.Tables.{unmarked}
 use Rattle.model.proofs.draft.Draft.begin.Needs as need
 
 pub returns : need.returns
-returns c = (search needs, record {
+returns c = (
+  search needs,
+  record {
     few-acts = search needs;
     group = search needs;
     facts = search needs;
@@ -14,4 +16,6 @@ returns c = (search needs, record {
     moves = search needs;
     marks = λ a e. ap (λ l. marked-in l a e) (c .none .ensures) ∙ unmarked 248 a e;
     allowance = search needs;
-    text = search needs })
+    text = search needs;
+  },
+)

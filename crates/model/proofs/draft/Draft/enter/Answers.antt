@@ -13,18 +13,20 @@ use Rattle.model.proofs.Tables.{mark-more}
 use Rattle.model.proofs.draft.Draft.enter.Needs as need
 
 pub returns-in-Mark : need.returns-in-Mark
-returns-in-Mark c = record { head = search needs; stands = λ k s f.
-    let a = c .in-Mark .act in
-    let e = c .in-Mark .reaction in
-    let old = c .args .self .now .marks in
-    let is : said (c .args .item) ≡ mark a e = ap said (c .in-Mark .is) in
-    let fit : Fit (c .args .self .now .head) k (mark a e) = subst (Fit (c .args .self .now .head) k) is f in
-    let ha : a < 31 = search needs in
-    let he : e < 8 = search needs in
-    let within : a * 8 + e < length (marks-list old) = search needs in
-    let ok : c .add-in-Mark .result ≡ true = search needs in
-    let ms : marks-list (c .add-in-Mark .last .self) ≡ set (marks-list old) (a * 8 + e) true = search needs in
-    record {
+returns-in-Mark c = record {
+  head = search needs;
+  stands = λ k s f.
+      let a = c .in-Mark .act in
+      let e = c .in-Mark .reaction in
+      let old = c .args .self .now .marks in
+      let is : said (c .args .item) ≡ mark a e = ap said (c .in-Mark .is) in
+      let fit : Fit (c .args .self .now .head) k (mark a e) = subst (Fit (c .args .self .now .head) k) is f in
+      let ha : a < 31 = search needs in
+      let he : e < 8 = search needs in
+      let within : a * 8 + e < length (marks-list old) = search needs in
+      let ok : c .add-in-Mark .result ≡ true = search needs in
+      let ms : marks-list (c .add-in-Mark .last .self) ≡ set (marks-list old) (a * 8 + e) true = search needs in
+      record {
         few-acts = search needs;
         group = search needs;
         facts = search needs;
@@ -32,7 +34,9 @@ returns-in-Mark c = record { head = search needs; stands = λ k s f.
         lowest = search needs;
         moves = search needs;
         marks = λ x y.
-          ap (λ l. marked-in l x y) ms
-          ∙ (mark-more (marks-list old) (k .marks) a e ha he within (s .marks) x y ∙ ap (λ i. marked-of (with-item k i .marks) x y) (sym is));
+            ap (λ l. marked-in l x y) ms
+            ∙ (mark-more (marks-list old) (k .marks) a e ha he within (s .marks) x y ∙ ap (λ i. marked-of (with-item k i .marks) x y) (sym is));
         allowance = search needs;
-        text = search needs } }
+        text = search needs;
+      };
+}
