@@ -1,4 +1,4 @@
-mod Ending
-mod Fitting
-mod Inside
-mod Tables
+pub mod Ending
+pub mod Fitting
+pub mod Inside
+pub mod Tables

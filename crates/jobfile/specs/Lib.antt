@@ -1,0 +1,4 @@
+pub mod Verdict
+pub mod Format
+pub mod Held
+pub mod Faults
