@@ -25,7 +25,7 @@ use Rattle.jobfile.specs.declared.fault.FileFault.the-variants.{Model}
 use Rattle.jobfile.specs.Verdict.{ended, go-on, judge, after-head, verdict}
 
 -- a record is longer than what stands behind it
-cut-is-whole : (k : ℕ) (b r : List ℕ) → cut ≡ whole k b r → ⊥
+pub cut-is-whole : (k : ℕ) (b r : List ℕ) → cut ≡ whole k b r → ⊥
 cut-is-whole k b r e = let z : _≡_ {A = ℕ} 0 1 = cc in omega arith
 
 long-enough-rest : (t : Bool) (n kind : ℕ) (ys : List ℕ) (k : ℕ) (b r : List ℕ) → long-enough t n kind ys ≡ whole k b r → length r ≤ length ys

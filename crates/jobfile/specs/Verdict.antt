@@ -1,6 +1,8 @@
 -- Reading a job file, as a definition that computes: front to back, record by record, and then the end.
 use Prim.Native.Nat.{ℕ, zero, suc, _-_}
+use mathlib.Core.Bool.{Bool, true, false}
 use mathlib.Core.List.{List, [], _∷_}
+use lib.Dec.{leb}
 use lib.ListN.{length}
 use Rattle.std.specs.declared.option.Option.{Option}
 use Rattle.std.specs.declared.option.Option.the-variants.{Some, None}
@@ -15,7 +17,7 @@ use Rattle.model.specs.Contents.{Contents, silence, with-item}
 use Rattle.model.specs.Weigh.{begin, turn}
 use Rattle.model.specs.Closing.{closing}
 use Rattle.jobfile.specs.declared.fault.FileFault.{FileFault}
-use Rattle.jobfile.specs.declared.fault.FileFault.the-variants.{Model}
+use Rattle.jobfile.specs.declared.fault.FileFault.the-variants.{Model, TooLong}
 
 -- the end of the file, with its fault if it has one
 abbrev pub ended : Option ModelFault → Header → Contents → Result (Header × Contents) FileFault
@@ -43,3 +45,11 @@ after-head (Ok (h, rest)) end = judge end h silence end rest
 abbrev pub verdict : List ℕ → Result (Header × Contents) FileFault
 verdict [] = Err (Model (Missing 0))
 verdict (b ∷ bytes) = after-head (begin (b ∷ bytes)) (length (b ∷ bytes))
+
+-- the same with a limit on the file's length
+abbrev pub limited : Bool → ℕ → List ℕ → Result (Header × Contents) FileFault
+limited true most file = verdict file
+limited false most file = Err (TooLong most)
+
+abbrev pub verdict-within : ℕ → List ℕ → Result (Header × Contents) FileFault
+verdict-within most file = limited (leb (length file) most) most file

@@ -1,5 +1,6 @@
 ghost use mathlib.Core.Path.{_≡_};
 ghost use Rattle.jobfile.specs.declared.fault.FileFault.the-variants.{Model};
+ghost use Rattle.model.specs.declared.fault.ModelFault.the-variants.{Memory};
 use model::fault::ModelFault;
 use std::alloc::AllocError;
 
@@ -19,5 +20,13 @@ pub impl From<ModelFault> for FileFault as FileFromModel {
 
     fn from(e: ModelFault) -> FileFault {
         FileFault::Model(e)
+    }
+}
+
+pub impl From<AllocError> for FileFault as FileFromAlloc {
+    ghost converts = { λ _ r. r ≡ Model Memory };
+
+    fn from(_e: AllocError) -> FileFault {
+        FileFault::Model(ModelFault::Memory)
     }
 }

@@ -9,8 +9,9 @@ ghost use Rattle.model.specs.declared.fault.ModelFault.the-variants.{Memory};
 ghost use Rattle.model.specs.Contents.{Contents};
 ghost use Rattle.model.specs.Closing.{Modelled};
 ghost use Rattle.jobfile.specs.Held.{Blank, Read-well};
-ghost use Rattle.jobfile.specs.Verdict.{verdict};
+ghost use Rattle.jobfile.specs.Verdict.{verdict, verdict-within};
 use super::super::fault::FileFault;
+use super::super::fault::FileFromAlloc;
 use super::super::fault::FileFromModel;
 use super::JobFile;
 use model::draft::Draft;
@@ -31,4 +32,28 @@ fn modelled(heap: Global, file: &[u8]) -> Result<Model<'_>, FileFault>
     }
     let model = draft.close(file.len())?;
     Ok(model)
+}
+
+impl JobFile {
+    // Reads a file into this place. A refused read leaves the empty job file.
+    pub fn read(&mut self, heap: Global, file: &[u8]) -> Result<(), FileFault>
+        ensures { λ r. ⌜ Cases r (λ _. Read-well (now (self .exit)) (now (file .entry))) (λ f. Blank (now (self .exit)) × ((f ≡ FileFault.Model Memory) ⊎ (verdict (now (file .entry)) ≡ Err f))) ⌝ }
+    {
+        *self = JobFile::empty(heap);
+        let Model { lock, facts, acts, marks, most, text } = modelled(heap, file)?;
+        let text = Vec::from_slice(heap, text)?;
+        *self = JobFile { lock, facts, acts, marks, most, text };
+        Ok(())
+    }
+
+    // The same for a file of at most so many bytes; a longer one is refused whatever it holds.
+    pub fn read_at_most(&mut self, heap: Global, file: &[u8], limit: usize) -> Result<(), FileFault>
+        ensures { λ r. ⌜ Cases r (λ _. (length (now (file .entry)) ≤ limit) × Read-well (now (self .exit)) (now (file .entry))) (λ f. Blank (now (self .exit)) × ((f ≡ FileFault.Model Memory) ⊎ (verdict-within limit (now (file .entry)) ≡ Err f))) ⌝ }
+    {
+        if file.len() > limit {
+            *self = JobFile::empty(heap);
+            return Err(FileFault::TooLong(limit));
+        }
+        self.read(heap, file)
+    }
 }
