@@ -1,8 +1,7 @@
 -- The state after any reaction, possible or not, is a state.
-use Prim.Native.Nat.{ℕ, zero, _<_}
-use mathlib.Core.Bool.{true, false}
+use Prim.Native.Nat.{ℕ, _<_}
 use mathlib.Core.Logic.{⊎-elim}
-use mathlib.Core.Path.{_≡_, sym, subst}
+use mathlib.Core.Path.{sym, subst}
 use Rattle.std.proofs.shelf.Tests.{cases-bool}
 use Rattle.locks.specs.Meaning.{Meaning, Lawful}
 

@@ -1,13 +1,13 @@
 -- The allowance is a sound memory, and leaves a live lock live.
-use Prim.Native.Nat.{ℕ, _+_, _-_, _<_, _≤_}
+use Prim.Native.Nat.{ℕ, _+_, _-_, _<_}
 use native.Mathlib.Omega.{arith}
 use lib.Dec.{ltb}
-use mathlib.Core.Bool.{Bool, true, false, _&&_, _||_, not, cond}
+use mathlib.Core.Bool.{Bool, true, false, _&&_, not}
 use mathlib.Core.Logic.{⊎-elim}
-use mathlib.Core.Path.{_≡_, refl, sym, _∙_}
+use mathlib.Core.Path.{_≡_}
 use Rattle.std.proofs.shelf.Tests.{cases-bool, and-parts, and-from, or-left, or-right, not-from-false, cond-both}
 use Rattle.locks.specs.Meaning.{reactions, any-below}
-use Rattle.locks.specs.Layer.{Memory, Sound, Lively, admitted}
+use Rattle.locks.specs.Layer.{Sound, Lively, admitted}
 use Rattle.locks.specs.Allowed.{allowance, unmarked-possible}
 use Rattle.locks.proofs.AnyBelow.{some-below, any-from}
 

@@ -1,15 +1,14 @@
 -- A layer of a lock is a lock, and of a live lock a live one, whatever the lock and the memory are.
-use Prim.Native.Nat.{ℕ, zero, suc, _+_, _*_, _/_, _%_, _<_, _≤_}
+use Prim.Native.Nat.{ℕ, zero, _+_, _*_, _/_, _%_, _<_, _≤_}
 use native.Mathlib.Nat.{mul-pos, mod-lt, div-lt-iff-lt-mul}
 use native.Mathlib.Omega.{arith}
-use lib.Dec.{leb}
-use mathlib.Core.Bool.{Bool, true, false, _&&_, cond}
+use mathlib.Core.Bool.{true}
 use mathlib.Core.Logic.{⊎-elim}
-use mathlib.Core.Path.{_≡_, refl, sym, _∙_, ap, subst}
+use mathlib.Core.Path.{_≡_, sym, subst}
 use Rattle.std.proofs.shelf.Tests.{cases-bool, and-parts, and-from, leb-true, cond-true, cond-false}
 use Rattle.std.proofs.shelf.Bits.{mul-add-lt}
-use Rattle.locks.specs.Meaning.{Meaning, Lawful, Live, reactions, most-states, reacts}
-use Rattle.locks.specs.Layer.{Memory, Sound, Lively, remembering, layered, fits, admitted}
+use Rattle.locks.specs.Meaning.{Meaning, Lawful, Live, most-states}
+use Rattle.locks.specs.Layer.{Memory, Sound, Lively, remembering, layered, fits}
 
 module _ (m : Meaning) (k : Memory) (law : Lawful m) (sound : Sound k) where
   size-above-0 : zero < k .size

@@ -1,6 +1,6 @@
 -- The lowest possible reaction of a live lock names the act.
 use Prim.Native.Nat.{ℕ}
-use mathlib.Core.Bool.{Bool, true, false}
+use mathlib.Core.Bool.{false}
 use mathlib.Core.Path.{_≡_, refl}
 use Rattle.std.specs.Options.{Cases, valueOr}
 use Rattle.std.specs.declared.option.Option.{Option}

@@ -6,7 +6,7 @@ use mathlib.Core.Bool.{Bool, true, false, _&&_, _||_, not, cond}
 use mathlib.Core.List.{List}
 use Rattle.std.specs.declared.option.Option.{Option}
 use Rattle.std.specs.declared.option.Option.the-variants.{Some, None}
-use Rattle.locks.specs.Meaning.{Meaning, most-states, most-acts, reactions, any-below}
+use Rattle.locks.specs.Meaning.{Meaning, most-acts, reactions, any-below}
 use Rattle.locks.specs.Layer.{Memory, fits}
 use Rattle.locks.specs.declared.marks.Marks.{Marks}
 use Rattle.locks.specs.declared.allowance.LayerFault.{LayerFault}

@@ -1,7 +1,7 @@
 -- A layer: a lock below with a finite memory beside it.
 use Prim.Native.Nat.{ℕ, _+_, _*_, _/_, _%_, _<_}
 use lib.Dec.{leb}
-use mathlib.Core.Bool.{Bool, true, false, _&&_, cond}
+use mathlib.Core.Bool.{Bool, true, _&&_, cond}
 use mathlib.Core.Path.{_≡_}
 use Rattle.locks.specs.Meaning.{Meaning, most-states, reactions, any-below}
 

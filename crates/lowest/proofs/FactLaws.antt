@@ -4,14 +4,14 @@ use native.Mathlib.Omega.{arith}
 use lib.Bits.{bitAnd, or-lt}
 use lib.Dec.{ltb}
 use lib.Pow.{pow-pos, pow-mono}
-use mathlib.Core.Bool.{Bool, true, false, _&&_}
+use mathlib.Core.Bool.{true}
 use mathlib.Core.Path.{_≡_, sym, subst}
 use Rattle.std.specs.declared.option.Option.{Option}
 use Rattle.std.specs.declared.option.Option.the-variants.{Some, None}
 use Rattle.std.proofs.shelf.Tests.{and-parts, ltb-true, cond-true, cond-false, cond-both}
 use Rattle.locks.specs.Meaning.{Lawful}
-use Rattle.lowest.specs.Facts.{fact-meaning, fact-allowed, fact-possible, rule-met, changed, set-bits, change-in}
-use Rattle.lowest.specs.FactViews.{fact-lock, fact-rules, fact-changes}
+use Rattle.lowest.specs.Facts.{fact-meaning, fact-allowed, fact-possible, changed, set-bits}
+use Rattle.lowest.specs.FactViews.{fact-lock}
 use Rattle.lowest.specs.declared.facts.Rule.{Rule}
 use Rattle.lowest.specs.declared.facts.Change.{Change}
 use Rattle.lowest.specs.declared.facts.FactLock.{FactLock}

@@ -1,13 +1,16 @@
 -- A fact lock by its parts.
 use Prim.Native.Nat.{ℕ, _*_}
+use lib.Dec.{ltb}
 use lib.ListN.{replicate}
+use mathlib.Core.Bool.{Bool, _&&_, not}
 use mathlib.Core.List.{List}
 use mathlib.Core.Path.{_≡_}
 use Rattle.std.specs.Of.Vec.{vec-items}
+use Rattle.std.specs.Options.{isSome}
 use Rattle.std.specs.declared.option.Option.{Option}
 use Rattle.std.specs.declared.option.Option.the-variants.{None}
 use Rattle.locks.specs.Meaning.{Meaning, reactions}
-use Rattle.lowest.specs.Facts.{fact-meaning, rule-in, change-in}
+use Rattle.lowest.specs.Facts.{fact-meaning, rule-in, change-in, rule-short, change-short}
 use Rattle.lowest.specs.declared.facts.Rule.{Rule}
 use Rattle.lowest.specs.declared.facts.Change.{Change}
 use Rattle.lowest.specs.declared.facts.FactLock.{FactLock}
@@ -24,6 +27,16 @@ fact-changes lock = vec-items (lock .changes)
 abbrev pub fact-lock : FactLock → Meaning
 fact-lock lock =
     fact-meaning (lock .facts) (lock .acts) (lock .first) (rule-in (fact-rules lock)) (change-in (fact-changes lock))
+
+-- whether the rule can be the act's: the act is one of the lock's, the masks are of its facts, and it has no rule yet
+abbrev pub rule-fits : FactLock → ℕ → Rule → Bool
+rule-fits lock a rule = ltb a (lock .acts) && (rule-short (lock .facts) rule && not (isSome (rule-in (fact-rules lock) a)))
+
+-- whether the change can be that of the act and the reaction: likewise
+abbrev pub change-fits : FactLock → ℕ → ℕ → Change → Bool
+change-fits lock a e change =
+    (ltb a (lock .acts) && ltb e reactions)
+    && (change-short (lock .facts) change && not (isSome (change-in (fact-changes lock) a e)))
 
 -- two locks that differ in nothing but their rules, or in nothing but their changes
 pub record Same-but-rules (old new : FactLock) : Type 0 where

@@ -2,10 +2,11 @@
 use Prim.Native.Nat.{ℕ, _*_}
 use lib.Dec.{ltb}
 use lib.ListN.{length, replicate}
-use mathlib.Core.Bool.{Bool, _&&_}
+use mathlib.Core.Bool.{Bool, _&&_, not}
 use mathlib.Core.List.{List, []}
 use mathlib.Core.Path.{_≡_}
 use Rattle.std.specs.Of.Vec.{vec-items}
+use Rattle.std.specs.Options.{isSome}
 use Rattle.std.specs.declared.option.Option.{Option}
 use Rattle.std.specs.declared.option.Option.the-variants.{None}
 use Rattle.locks.specs.Meaning.{Meaning, reactions}
@@ -30,6 +31,12 @@ listed-lock lock =
 -- whether one more state can be listed, with this valuation
 abbrev pub listable : ListedLock → ℕ → Bool
 listable lock valuation = ltb (length (listed-valuations lock)) (lock .states) && short (lock .facts) valuation
+
+-- whether the move can be that of the state, the act and the reaction: all are of the lock, and they have no move yet
+abbrev pub move-fits : ListedLock → ℕ → ℕ → ℕ → ℕ → Bool
+move-fits lock s a e t =
+    ((ltb s (lock .states) && ltb a (lock .acts)) && (ltb e reactions && ltb t (lock .states)))
+    && not (isSome (move-in (lock .acts) (listed-moves lock) s a e))
 
 -- two locks with the same numbers
 pub record Same-numbers (old new : ListedLock) : Type 0 where

@@ -1,4 +1,3 @@
-ghost use mathlib.Core.Path.{_≡_};
 ghost use Rattle.lowest.specs.Lowest.{lowest-lock};
 use crate::facts::FactLock;
 use crate::facts::answers::FactLockAnswers;

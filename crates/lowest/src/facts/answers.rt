@@ -1,4 +1,3 @@
-ghost use mathlib.Core.Path.{_≡_};
 ghost use Rattle.lowest.specs.FactViews.{fact-lock};
 use super::FactLock;
 use crate::bits::has_bit;

@@ -1,13 +1,11 @@
-ghost use lib.Dec.{leb, ltb};
 ghost use lib.ListN.{set};
-ghost use mathlib.Core.Bool.{true, false, _&&_, not, cond};
+ghost use mathlib.Core.Bool.{true, false, _&&_, cond};
 ghost use mathlib.Core.Path.{_≡_};
 ghost use Prim.Native.Nat.{_+_, _*_, _≤_};
 ghost use Rattle.std.specs.declared.option.Option.the-variants.{Some};
-ghost use Rattle.std.specs.Options.{isSome};
 ghost use Rattle.std.specs.Results.{Cases};
 ghost use Rattle.locks.specs.Meaning.{reactions};
-ghost use Rattle.lowest.specs.FactViews.{fact-rules, fact-changes, Same-but-rules, Same-but-changes, Fresh-facts};
+ghost use Rattle.lowest.specs.FactViews.{fact-rules, fact-changes, rule-fits, change-fits, Same-but-rules, Same-but-changes, Fresh-facts};
 ghost use Rattle.lowest.specs.Facts.{rule-in, change-in, rule-short, change-short, fact-range};
 use super::Change;
 use super::FactLock;
@@ -87,7 +85,7 @@ impl FactLock {
 
     // Gives the act its rule; false, and nothing changed, if there is no such act, a mask is too long, or it has one.
     pub fn add_rule(&mut self, act: u8, rule: Rule) -> bool
-        ensures answer { λ r. ⌜ r ≡ (ltb act (now (self .entry) .acts) && (rule-short (now (self .entry) .facts) rule && not (isSome (rule-in (fact-rules (now (self .entry))) act)))) ⌝ }
+        ensures answer { λ r. ⌜ r ≡ rule-fits (now (self .entry)) act rule ⌝ }
         ensures rules { λ r. ⌜ fact-rules (now (self .exit)) ≡ cond r (set (fact-rules (now (self .entry))) act (Some rule)) (fact-rules (now (self .entry))) ⌝ }
         ensures rest { λ r. ⌜ Same-but-rules (now (self .entry)) (now (self .exit)) ⌝ }
         ensures kept { λ r. ⌜ (r ≡ false → now (self .exit) ≡ now (self .entry)) ⌝ }
@@ -102,7 +100,7 @@ impl FactLock {
     // Gives the act and the reaction their change; false, and nothing changed, if they are out of range,
     // a mask is too long, or they have one.
     pub fn add_change(&mut self, act: u8, reaction: u8, change: Change) -> bool
-        ensures answer { λ r. ⌜ r ≡ ((ltb act (now (self .entry) .acts) && ltb reaction reactions) && (change-short (now (self .entry) .facts) change && not (isSome (change-in (fact-changes (now (self .entry))) act reaction)))) ⌝ }
+        ensures answer { λ r. ⌜ r ≡ change-fits (now (self .entry)) act reaction change ⌝ }
         ensures changes { λ r. ⌜ fact-changes (now (self .exit)) ≡ cond r (set (fact-changes (now (self .entry))) (act * reactions + reaction) (Some change)) (fact-changes (now (self .entry))) ⌝ }
         ensures rest { λ r. ⌜ Same-but-changes (now (self .entry)) (now (self .exit)) ⌝ }
         ensures kept { λ r. ⌜ (r ≡ false → now (self .exit) ≡ now (self .entry)) ⌝ }

@@ -1,15 +1,12 @@
-ghost use lib.Dec.{ltb};
 ghost use lib.ListN.{length, set};
 ghost use mathlib.Core.Bool.{true, false, _&&_, not, cond};
 ghost use mathlib.Core.List.{_++_, _∷_, []};
 ghost use mathlib.Core.Path.{_≡_};
-ghost use Prim.Native.Nat.{_+_, _*_, _<_, _≤_};
+ghost use Prim.Native.Nat.{_+_, _*_, _<_};
 ghost use Rattle.std.specs.declared.option.Option.the-variants.{Some};
-ghost use Rattle.std.specs.Options.{isSome};
 ghost use Rattle.std.specs.Results.{Cases, isOk};
-ghost use Rattle.locks.specs.Meaning.{reactions};
 ghost use Rattle.lowest.specs.Listed.{move-place, move-in, listed-range};
-ghost use Rattle.lowest.specs.ListedViews.{listed-valuations, listed-moves, listable, Same-numbers, Fresh-listed};
+ghost use Rattle.lowest.specs.ListedViews.{listed-valuations, listed-moves, listable, move-fits, Same-numbers, Fresh-listed};
 use super::ListedLock;
 use super::MOST_LISTED;
 use crate::bits::is_short;
@@ -105,7 +102,7 @@ impl ListedLock {
     // Gives the state, the act and the reaction their move; false, and nothing changed, if a number is out of range
     // or they have one.
     pub fn add_move(&mut self, state: u32, act: u8, reaction: u8, after: u32) -> bool
-        ensures answer { λ r. ⌜ r ≡ (((ltb state (now (self .entry) .states) && ltb act (now (self .entry) .acts)) && (ltb reaction reactions && ltb after (now (self .entry) .states))) && not (isSome (move-in (now (self .entry) .acts) (listed-moves (now (self .entry))) state act reaction))) ⌝ }
+        ensures answer { λ r. ⌜ r ≡ move-fits (now (self .entry)) state act reaction after ⌝ }
         ensures moves { λ r. ⌜ listed-moves (now (self .exit)) ≡ cond r (set (listed-moves (now (self .entry))) (move-place (now (self .entry) .acts) state act reaction) (Some after)) (listed-moves (now (self .entry))) ⌝ }
         ensures valuations { λ r. ⌜ listed-valuations (now (self .exit)) ≡ listed-valuations (now (self .entry)) ⌝ }
         ensures rest { λ r. ⌜ Same-numbers (now (self .entry)) (now (self .exit)) ⌝ }

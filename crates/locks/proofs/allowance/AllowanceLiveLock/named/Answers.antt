@@ -1,5 +1,4 @@
 use mathlib.Core.Path.{sym, subst}
-use Prim.Native.Nat.{ℕ}
 use Rattle.locks.specs.Meaning.{Named}
 use Rattle.locks.specs.Layer.{layered}
 use Rattle.locks.specs.Allowed.{marked, allowance}
