@@ -28,7 +28,7 @@ use Rattle.jobfile.specs.Format.Records.{no-more, one-more}
 use Rattle.jobfile.proofs.Judging.{cut-is-whole}
 
 whole-record : (l0 l1 k0 k1 : ℕ) (ys : List ℕ) (t : Bool) → leb (two-bytes l0 l1) (length ys) ≡ t → (k : ℕ) (b r : List ℕ) →
-  long-enough t (two-bytes l0 l1) (two-bytes k0 k1) ys ≡ whole k b r → Is-record (l0 ∷ (l1 ∷ (k0 ∷ (k1 ∷ ys)))) k b r
+    long-enough t (two-bytes l0 l1) (two-bytes k0 k1) ys ≡ whole k b r → Is-record (l0 ∷ (l1 ∷ (k0 ∷ (k1 ∷ ys)))) k b r
 whole-record l0 l1 k0 k1 ys false l k b r e = absurd (cut-is-whole k b r e)
 whole-record l0 l1 k0 k1 ys true l k b r e =
     let n = two-bytes l0 l1 in
@@ -37,13 +37,14 @@ whole-record l0 l1 k0 k1 ys true l k b r e =
     let kind : two-bytes k0 k1 ≡ k = cc in
     let all : take n ys ++ drop n ys ≡ b ++ r = λ i. body i ++ rest i in
     record {
-        l0 = l0;
-        l1 = l1;
-        k0 = k0;
-        k1 = k1;
-        bytes-are = ap (λ x. l0 ∷ (l1 ∷ (k0 ∷ (k1 ∷ x)))) (sym (take-append-drop n ys) ∙ all);
-        length-is = sym (length-take-le n ys (leb-true n (length ys) l)) ∙ ap length body;
-        kind-is = kind }
+      l0 = l0;
+      l1 = l1;
+      k0 = k0;
+      k1 = k1;
+      bytes-are = ap (λ x. l0 ∷ (l1 ∷ (k0 ∷ (k1 ∷ x)))) (sym (take-append-drop n ys) ∙ all);
+      length-is = sym (length-take-le n ys (leb-true n (length ys) l)) ∙ ap length body;
+      kind-is = kind;
+    }
 
 front-record : (xs : List ℕ) (k : ℕ) (b r : List ℕ) → front xs ≡ whole k b r → Is-record xs k b r
 front-record [] k b r e = absurd (cut-is-whole k b r e)
@@ -65,7 +66,7 @@ turned-good (Ok j) rest i more e =
     let p : _≡_ {A = Entry × List ℕ} (j, rest) (i, more) = cc in (ap (λ x. Ok (x .0)) p, ap (λ x. x .1) p)
 
 turn-good : (f : Front) (bytes : List ℕ) → front bytes ≡ f → (h : Header) (c : Contents) (at : ℕ) (i : Entry) (rest : List ℕ) →
-  turn-at f h c at ≡ Ok (i, rest) → Turned h c at bytes i rest
+    turn-at f h c at ≡ Ok (i, rest) → Turned h c at bytes i rest
 turn-good cut bytes s h c at i rest e = absurd (error-is-ok _ _ e)
 turn-good (whole k b r) bytes s h c at i rest e =
     let g = turned-good (weigh h c at k b) r i rest e in
@@ -88,12 +89,12 @@ goes-end h c end g d e =
     record { head = k .1; records = subst (Records h end [] c) (k .2) no-more; complete = subst (λ x. closing h x end ≡ None) (k .2) (k .0) }
 
 goes-on : (h : Header) (c : Contents) (end : ℕ) (bytes : List ℕ) (i : Entry) (rest : List ℕ) (g : Header) (d : Contents) →
-  Turned h c (end - length bytes) bytes i rest → Goes h (with-item c i) end rest g d → Goes h c end bytes g d
+    Turned h c (end - length bytes) bytes i rest → Goes h (with-item c i) end rest g d → Goes h c end bytes g d
 goes-on h c end bytes i rest g d t k =
     record { head = k .head; records = one-more (t .is-record) (t .good) (k .records); complete = k .complete }
 
 go-on-step : (r : Result (Entry × List ℕ) ModelFault) (next : Entry → List ℕ → Result (Header × Contents) FileFault) (g : Header) (d : Contents) →
-  go-on r next ≡ Ok (g, d) → (x : Entry × List ℕ) × (r ≡ Ok x) × (next (x .0) (x .1) ≡ Ok (g, d))
+    go-on r next ≡ Ok (g, d) → (x : Entry × List ℕ) × (r ≡ Ok x) × (next (x .0) (x .1) ≡ Ok (g, d))
 go-on-step (Err f) next g d e = absurd (error-is-ok _ _ e)
 go-on-step (Ok (i, rest)) next g d e = ((i, rest), refl, e)
 
@@ -113,22 +114,23 @@ begun-good (Ok j) rest h more e =
     let p : _≡_ {A = Header × List ℕ} (j, rest) (h, more) = cc in (ap (λ x. Ok (x .0)) p, ap (λ x. x .1) p)
 
 opened-file : (f : Front) (file : List ℕ) → front file ≡ f → (h : Header) (rest : List ℕ) → begin-at f ≡ Ok (h, rest) →
-  (g : Header) (d : Contents) → judge (length file) h silence (length file) rest ≡ Ok (g, d) → Is-job-file file g d
+    (g : Header) (d : Contents) → judge (length file) h silence (length file) rest ≡ Ok (g, d) → Is-job-file file g d
 opened-file cut file s h rest e g d j = absurd (error-is-ok _ _ e)
 opened-file (whole k b r) file s h rest e g d j =
     let o = begun-good (opening 0 k b) r h rest e in
     let w = judge-goes (length file) h silence (length file) rest g d j in
     record {
-        kind = k;
-        body = b;
-        rest = r;
-        starts = front-record file k b r s;
-        head = o .0 ∙ ap (λ x. Ok x) (w .head);
-        records = subst (λ x. Records x (length file) r silence d) (w .head) (subst (λ x. Records h (length file) x silence d) (sym (o .1)) (w .records));
-        complete = subst (λ x. closing x d (length file) ≡ None) (w .head) (w .complete) }
+      kind = k;
+      body = b;
+      rest = r;
+      starts = front-record file k b r s;
+      head = o .0 ∙ ap (λ x. Ok x) (w .head);
+      records = subst (λ x. Records x (length file) r silence d) (w .head) (subst (λ x. Records h (length file) x silence d) (sym (o .1)) (w .records));
+      complete = subst (λ x. closing x d (length file) ≡ None) (w .head) (w .complete);
+    }
 
 begun-file : (r : Result (Header × List ℕ) ModelFault) (file : List ℕ) → begin file ≡ r → (g : Header) (d : Contents) →
-  after-head r (length file) ≡ Ok (g, d) → Is-job-file file g d
+    after-head r (length file) ≡ Ok (g, d) → Is-job-file file g d
 begun-file (Err f) file s g d e = absurd (error-is-ok _ _ e)
 begun-file (Ok (h, rest)) file s g d e = opened-file (front file) file refl h rest s g d e
 

@@ -79,15 +79,15 @@ not-empty (x ∷ xs) e = omega arith
 module _ (h : Header) (c : Contents) (end : ℕ) where
   -- the verdict behind a record is the verdict before it
   pub judge-on : (n : ℕ) (bytes : List ℕ) (i : Entry) (rest : List ℕ) → 0 < length bytes → length bytes ≤ n →
-    turn h c (end - length bytes) bytes ≡ Ok (i, rest) →
-    (m : ℕ) × (length rest ≤ m) × (judge m h (with-item c i) end rest ≡ judge n h c end bytes)
+      turn h c (end - length bytes) bytes ≡ Ok (i, rest) →
+      (m : ℕ) × (length rest ≤ m) × (judge m h (with-item c i) end rest ≡ judge n h c end bytes)
   judge-on n [] i rest p l e = let z : ⊥ = omega arith in absurd z
   judge-on zero (b ∷ bytes) i rest p l e = let z : ⊥ = omega arith in absurd z
   judge-on (suc n) (b ∷ bytes) i rest p l e =
       (n, omega (arith, turn-rest h c _ (b ∷ bytes) i rest e), sym (ap (λ r. go-on r (λ j more. judge n h (with-item c j) end more)) e))
 
   pub judge-off : (n : ℕ) (bytes : List ℕ) (f : ModelFault) → 0 < length bytes → length bytes ≤ n →
-    turn h c (end - length bytes) bytes ≡ Err f → judge n h c end bytes ≡ Err (Model f)
+      turn h c (end - length bytes) bytes ≡ Err f → judge n h c end bytes ≡ Err (Model f)
   judge-off n [] f p l e = let z : ⊥ = omega arith in absurd z
   judge-off zero (b ∷ bytes) f p l e = let z : ⊥ = omega arith in absurd z
   judge-off (suc n) (b ∷ bytes) f p l e = ap (λ r. go-on r (λ j more. judge n h (with-item c j) end more)) e

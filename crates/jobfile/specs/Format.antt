@@ -26,7 +26,7 @@ pub record Is-record (bytes : List ℕ) (kind : ℕ) (body rest : List ℕ) : Ty
 pub data Records (h : Header) (end : ℕ) : List ℕ → Contents → Contents → Type 0 where
   no-more : {c : Contents} → Records h end [] c c
   one-more : {bytes : List ℕ} {kind : ℕ} {body rest : List ℕ} {c d : Contents} {i : Entry} → Is-record bytes kind body rest →
-    weigh h c (end - length bytes) kind body ≡ Ok i → Records h end rest (with-item c i) d → Records h end bytes c d
+      weigh h c (end - length bytes) kind body ≡ Ok i → Records h end rest (with-item c i) d → Records h end bytes c d
 
 -- A job file: a head, then records, and at the end no fault.
 pub record Is-job-file (file : List ℕ) (h : Header) (c : Contents) : Type 0 where

@@ -40,9 +40,23 @@ impl JobFile {
         ensures { λ r. ⌜ Cases r (λ _. Read-well (now (self .exit)) (now (file .entry))) (λ f. Blank (now (self .exit)) × ((f ≡ FileFault.Model Memory) ⊎ (verdict (now (file .entry)) ≡ Err f))) ⌝ }
     {
         *self = JobFile::empty(heap);
-        let Model { lock, facts, acts, marks, most, text } = modelled(heap, file)?;
+        let Model {
+            lock,
+            facts,
+            acts,
+            marks,
+            most,
+            text,
+        } = modelled(heap, file)?;
         let text = Vec::from_slice(heap, text)?;
-        *self = JobFile { lock, facts, acts, marks, most, text };
+        *self = JobFile {
+            lock,
+            facts,
+            acts,
+            marks,
+            most,
+            text,
+        };
         Ok(())
     }
 

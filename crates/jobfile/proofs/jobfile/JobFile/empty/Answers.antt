@@ -6,9 +6,10 @@ use Rattle.jobfile.proofs.jobfile.JobFile.empty.Needs as need
 
 pub returns : need.returns
 returns c = record {
-    lock = search needs;
-    facts = search needs;
-    acts = search needs;
-    marks = λ a e. ap (λ l. marked-in l a e) (c .none .ensures) ∙ unmarked 248 a e;
-    most = search needs;
-    text = search needs }
+  lock = search needs;
+  facts = search needs;
+  acts = search needs;
+  marks = λ a e. ap (λ l. marked-in l a e) (c .none .ensures) ∙ unmarked 248 a e;
+  most = search needs;
+  text = search needs;
+}

@@ -23,8 +23,9 @@ returns-in-Break-rest c =
     let inv = c .loop-rest .inv in
     let some : 0 < length (c .loop-rest .rest .now) = not-empty (c .loop-rest .rest .now) (c .loop-rest-test .ensures tt) in
     rw (p .1, p .2) (elim (c .in-Break-rest .ensures tt .stands (inv .0) (inv .1)) [
-      inl m ↦ inl (ap Model m)
-    | inr e ↦ inr (sym (inv .2 .2) ∙ judge-off (c .loop-rest .draft .head) (inv .0) (length (c .args .file .now)) (inv .2 .0) (c .loop-rest .rest .now) _ some (inv .2 .1) e) ])
+      | inl m ↦ inl (ap Model m)
+      | inr e ↦ inr (sym (inv .2 .2) ∙ judge-off (c .loop-rest .draft .head) (inv .0) (length (c .args .file .now)) (inv .2 .0) (c .loop-rest .rest .now) _ some (inv .2 .1) e)
+    ])
 
 pub loop-rest-less : need.loop-rest-less
 loop-rest-less c =
@@ -38,11 +39,15 @@ loop-rest-again c =
     let end = length (c .args .file .now) in
     let some : 0 < length (c .loop-rest .rest .now) = not-empty (c .loop-rest .rest .now) (c .loop-rest-test .ensures tt) in
     let t = c .in-Continue-rest .ensures tt .stands (inv .0) (inv .1) in
-    let o = judge-on (c .loop-rest .draft .head) (inv .0) end (inv .2 .0) (c .loop-rest .rest .now) (t .0) (c .in-Continue-rest .rest .now) some (inv .2 .1) (t .1) in
-    (with-item (inv .0) (t .0), t .2, (
+    let o = judge-on (c .loop-rest .draft .head) (inv .0) end (inv .2 .0) (c .loop-rest .rest .now) (t .0) (c .in-Continue-rest .rest .now) some (inv .2 .1) (t .1) in (
+      with-item (inv .0) (t .0),
+      t .2,
+      (
         o .0,
         o .1,
-        ap (λ h. judge (o .0) h (with-item (inv .0) (t .0)) end (c .in-Continue-rest .rest .now)) (c .in-Continue-rest .ensures tt .head) ∙ (o .2 ∙ inv .2 .2)))
+        ap (λ h. judge (o .0) h (with-item (inv .0) (t .0)) end (c .in-Continue-rest .rest .now)) (c .in-Continue-rest .ensures tt .head) ∙ (o .2 ∙ inv .2 .2),
+      ),
+    )
 
 pub returns : need.returns
 returns c =
