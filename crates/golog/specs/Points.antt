@@ -1,0 +1,87 @@
+-- The points of a program, what remains at each, and which come next.
+use Prim.Native.Nat.{ℕ, zero, suc, _+_, _-_, _*_, _/_, _%_, _^_, _<_}
+use mathlib.Core.Bool.{Bool, true, false, cond, not, _&&_, _||_}
+use mathlib.Core.List.{List, [], _∷_, _++_}
+use mathlib.Core.Option.{Option, none, some}
+use mathlib.Core.Path.{_≡_}
+use lib.Dec.{ltb, eqb}
+use lib.ListN.{length, getD}
+use Rattle.locks.specs.Meaning.{any-below}
+use Rattle.golog.specs.Programs.{Valuation, Cond, Prog, nil, Final, Step}
+use Rattle.golog.specs.Programs.Cond.{never}
+use Rattle.golog.specs.Programs.Prog.{act, test, seq, alt, star}
+
+-- the number that stands for no act
+abbrev pub no-act : ℕ
+no-act = 255
+
+-- The act words of a program, in the order of reading.
+abbrev pub act-words : Prog → List ℕ
+act-words (act a) = a ∷ []
+act-words (test c) = []
+act-words (seq p q) = act-words p ++ act-words q
+act-words (alt p q) = act-words p ++ act-words q
+act-words (star p) = act-words p
+
+-- how many act words a program has
+abbrev pub words : Prog → ℕ
+words δ = length (act-words δ)
+
+-- Point 0 is the beginning, and point k the place after the k-th act word.
+abbrev pub points : Prog → ℕ
+points δ = suc (words δ)
+
+-- the act word before a point; before point 0 there is none
+abbrev pub word : Prog → ℕ → ℕ
+word δ k = getD (no-act ∷ act-words δ) k no-act
+
+-- What remains at a point: at point 0 the whole program; after a word inside the first of two, what remains there and then the second;
+-- after a word inside a repeat, what remains there and then the repeat again. Past the last point nothing can be done, not even stopping.
+abbrev pub rem : Prog → ℕ → Prog
+rem (act a) zero = act a
+rem (act a) (suc zero) = nil
+rem (act a) (suc (suc k)) = test never
+rem (test c) zero = test c
+rem (test c) (suc k) = test never
+rem (seq p q) zero = seq p q
+rem (seq p q) (suc k) = cond (ltb k (words p)) (seq (rem p (suc k)) q) (rem q (suc (k - words p)))
+rem (alt p q) zero = alt p q
+rem (alt p q) (suc k) = cond (ltb k (words p)) (rem p (suc k)) (rem q (suc (k - words p)))
+rem (star p) zero = star p
+rem (star p) (suc k) = seq (rem p (suc k)) (star p)
+
+-- The program with each act word replaced by the number of the point after it, the first of them n + 1:
+-- a step of it says which of the words is taken.
+abbrev pub numbered-from : ℕ → Prog → Prog
+numbered-from n (act a) = act (suc n)
+numbered-from n (test c) = test c
+numbered-from n (seq p q) = seq (numbered-from n p) (numbered-from (n + words p) q)
+numbered-from n (alt p q) = alt (numbered-from n p) (numbered-from (n + words p) q)
+numbered-from n (star p) = star (numbered-from n p)
+
+abbrev pub numbered : Prog → Prog
+numbered δ = numbered-from 0 δ
+
+-- whether a program has a step by the act: the clauses of Step, as a test
+abbrev pub takes : Prog → Valuation → ℕ → Bool
+takes (act b) v a = eqb a b
+takes (test c) v a = false
+takes (seq p q) v a = takes p v a || (Final p v && takes q v a)
+takes (alt p q) v a = takes p v a || takes q v a
+takes (star p) v a = takes p v a
+
+-- The point q comes next from the point p: the remainder of p may take the act word before q.
+abbrev pub next : Prog → Valuation → ℕ → ℕ → Bool
+next δ v p q = takes (rem (numbered δ) p) v q
+
+-- A point goes on when it may stop or some point comes next.
+abbrev pub goes-on : Prog → Valuation → ℕ → Bool
+goes-on δ v p = Final (rem δ p) v || any-below (points δ) (next δ v p)
+
+-- The steps of a point's remainder are exactly the points that come next: a step by an act leads to what remains
+-- at a next point with that act word before it, and each next point is had by such a step.
+abbrev pub NextIsTrans : Type 0
+NextIsTrans =
+    (δ : Prog) (v : Valuation) (p a : ℕ) (δ′ : Prog) →
+    (Step v a (rem δ p) δ′ → (q : ℕ) × (next δ v p q ≡ true) × (word δ q ≡ a) × (rem δ q ≡ δ′))
+    × ((q : ℕ) → next δ v p q ≡ true → word δ q ≡ a → rem δ q ≡ δ′ → Step v a (rem δ p) δ′)
