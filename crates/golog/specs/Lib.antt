@@ -1,2 +1,9 @@
+pub mod Search
+pub mod Faults
 pub mod Programs
 pub mod Points
+pub mod Positions
+pub mod Standings
+pub mod Sheets
+pub mod Jobs
+pub mod SmallLock

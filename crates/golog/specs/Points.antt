@@ -7,6 +7,8 @@ use mathlib.Core.Path.{_≡_}
 use lib.Dec.{ltb, eqb}
 use lib.ListN.{length, getD}
 use Rattle.locks.specs.Meaning.{any-below}
+use Rattle.golog.specs.Search.{lowest}
+use Rattle.golog.specs.Faults.{Fault, routine-layer}
 use Rattle.golog.specs.Programs.{Valuation, Cond, Prog, nil, Final, Step}
 use Rattle.golog.specs.Programs.Cond.{never}
 use Rattle.golog.specs.Programs.Prog.{act, test, seq, alt, star}
@@ -77,6 +79,53 @@ next δ v p q = takes (rem (numbered δ) p) v q
 -- A point goes on when it may stop or some point comes next.
 abbrev pub goes-on : Prog → Valuation → ℕ → Bool
 goes-on δ v p = Final (rem δ p) v || any-below (points δ) (next δ v p)
+
+-- Two ways, first part: q and r come next from p by one act under one valuation.
+abbrev pub Together : Prog → ℕ → ℕ → ℕ → Type 0
+Together δ p q r = (v : Valuation) × (next δ v p q ≡ true) × (next δ v p r ≡ true) × (word δ q ≡ word δ r)
+
+-- Two ways, second part: q and r go on under one valuation.
+abbrev pub GoOnTogether : Prog → ℕ → ℕ → Type 0
+GoOnTogether δ q r = (w : Valuation) × (goes-on δ w q ≡ true) × (goes-on δ w r ≡ true)
+
+-- A program has one way: no point has two next points of one act under one valuation that both go on under some valuation.
+abbrev pub OneWay : Prog → Type 0
+OneWay δ = (p q r : ℕ) → q < r → Together δ p q r → GoOnTogether δ q r → ⊥
+
+-- The n-th valuation: fact i is true where bit i of n is set. Those below 2 ^ facts are all the valuations of so many facts.
+abbrev pub valuation : ℕ → Valuation
+valuation n i = eqb (n / 2 ^ i % 2) 1
+
+-- the two parts, tried over the valuations of so many facts
+abbrev pub together : ℕ → Prog → ℕ → ℕ → ℕ → Bool
+together facts δ p q r =
+    eqb (word δ q) (word δ r) && any-below (2 ^ facts) (λ n. next δ (valuation n) p q && next δ (valuation n) p r)
+
+abbrev pub go-on-together : ℕ → Prog → ℕ → ℕ → Bool
+go-on-together facts δ q r = any-below (2 ^ facts) (λ n. goes-on δ (valuation n) q && goes-on δ (valuation n) r)
+
+-- the ground of the two-ways fault
+abbrev pub two-ways-at : ℕ → Prog → ℕ → ℕ → ℕ → Bool
+two-ways-at facts δ p q r = ltb q r && (together facts δ p q r && go-on-together facts δ q r)
+
+-- What the check of a program finds: one way, or two from p to q and r, with p, then q, then r the lowest.
+pub data Ways : Type 0 where
+  one-way : Ways
+  two-ways : ℕ → ℕ → ℕ → Ways
+
+-- the triple of points that the number k stands for, among those of n points in rising order
+abbrev ways-of : ℕ → Option ℕ → Ways
+ways-of n none = one-way
+ways-of n (some k) = two-ways (k / (n * n)) (k / n % n) (k % n)
+
+abbrev pub ways : ℕ → Prog → Ways
+ways facts δ =
+    let n = points δ in ways-of n (lowest (n * n * n) (λ k. two-ways-at facts δ (k / (n * n)) (k / n % n) (k % n)))
+
+-- two ways are fault 11
+abbrev pub ways-fault : Ways → Option Fault
+ways-fault one-way = none
+ways-fault (two-ways p q r) = some (record { number = 11; layer = routine-layer; place = p * 4096 + q * 64 + r })
 
 -- The steps of a point's remainder are exactly the points that come next: a step by an act leads to what remains
 -- at a next point with that act word before it, and each next point is had by such a step.

@@ -1,0 +1,59 @@
+-- Positions: a point of the program with a state of the lock.
+use Prim.Native.Nat.{ℕ, _+_, _*_, _/_, _%_}
+use mathlib.Core.Bool.{Bool, _&&_}
+use mathlib.Core.Option.{Option, none, some}
+use lib.Dec.{eqb}
+use Rattle.locks.specs.Meaning.{Meaning, any-below}
+use Rattle.golog.specs.Search.{lowest}
+use Rattle.golog.specs.Programs.{Valuation, Prog, Final}
+use Rattle.golog.specs.Points.{points, word, rem, next, goes-on}
+
+-- how many positions there are
+abbrev pub positions : Meaning → Prog → ℕ
+positions m δ = points δ * m .states
+
+-- A position is point × states + state.
+abbrev pub position : Meaning → ℕ → ℕ → ℕ
+position m k s = k * m .states + s
+
+abbrev pub point-of : Meaning → ℕ → ℕ
+point-of m p = p / m .states
+
+abbrev pub state-of : Meaning → ℕ → ℕ
+state-of m p = p % m .states
+
+-- the first position: point 0 with the first state
+abbrev pub first-position : Meaning → ℕ
+first-position m = m .first
+
+-- the facts that hold at a position
+abbrev pub facts-at : Meaning → ℕ → Valuation
+facts-at m p = m .holds (state-of m p)
+
+-- A position may stop where what remains is final.
+abbrev pub may-stop : Meaning → Prog → ℕ → Bool
+may-stop m δ p = Final (rem δ (point-of m p)) (facts-at m p)
+
+-- the point k comes next from the position by the act
+abbrev pub next-by : Meaning → Prog → ℕ → ℕ → ℕ → Bool
+next-by m δ p a k = next δ (facts-at m p) (point-of m p) k && eqb (word δ k) a
+
+-- An act is usable at a position if it is allowed and some next point has it.
+abbrev pub usable : Meaning → Prog → ℕ → ℕ → Bool
+usable m δ p a = m .allowed (state-of m p) a && any-below (points δ) (next-by m δ p a)
+
+-- where a reaction leads: to a position, or the position is lost
+pub data Lead : Type 0 where
+  to : ℕ → Lead
+  lost : Lead
+
+abbrev lead-to : Meaning → ℕ → Option ℕ → Lead
+lead-to m s none = lost
+lead-to m s (some k) = to (position m k s)
+
+-- A possible reaction leads to the lowest next point of the act that goes on under the new valuation, with the state after it;
+-- if none goes on, the position is lost.
+abbrev pub lead : Meaning → Prog → ℕ → ℕ → ℕ → Lead
+lead m δ p a e =
+    let s = m .after (state-of m p) a e in
+    lead-to m s (lowest (points δ) (λ k. next-by m δ p a k && goes-on δ (m .holds s) k))
