@@ -90,8 +90,9 @@ abbrev pub plain-tell : Meaning → Prog → List ℕ → ℕ → Plain → Phas
 plain-tell m δ N e j ready = (j, refused (not-waiting (j .position)))
 plain-tell m δ N e j waiting =
     elim (possible-at m δ (j .position) (j .act) e) [
-      true ↦ (standing-at m δ N (moves-to (j .position) (lead m δ (j .position) (j .act) e)) (suc (j .count)), taken)
-    | false ↦ (j, refused (impossible (j .position))) ]
+      | true ↦ (standing-at m δ N (moves-to (j .position) (lead m δ (j .position) (j .act) e)) (suc (j .count)), taken)
+      | false ↦ (j, refused (impossible (j .position)))
+    ]
 plain-tell m δ N e j finished = (j, refused (not-waiting (j .position)))
 plain-tell m δ N e j given-up = (j, refused (not-waiting (j .position)))
 

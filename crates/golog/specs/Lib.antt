@@ -6,4 +6,8 @@ pub mod Positions
 pub mod Standings
 pub mod Sheets
 pub mod Jobs
+pub mod Words
+pub mod Grammar
+pub mod Reading
 pub mod SmallLock
+pub mod Cases

@@ -96,8 +96,9 @@ passed-by (some p) = false-row p
 abbrev pub pass : Meaning → Prog → List ℕ → List ℕ → Passed
 pass m δ N A =
     elim (fits m δ (length N) (length A)) [
-      true ↦ passed-by (lowest (positions m δ) (spoils-sheet m δ N A))
-    | false ↦ too-large (positions m δ) ]
+      | true ↦ passed-by (lowest (positions m δ) (spoils-sheet m δ N A))
+      | false ↦ too-large (positions m δ)
+    ]
 
 -- too large is fault 12, a false row fault 14
 abbrev pub pass-fault : Passed → Option Fault
@@ -120,8 +121,9 @@ abbrev pub numbered-by : Meaning → Prog → ℕ → List ℕ → ℕ → ℕ
 numbered-by m δ n N p =
     let old = getD N p no-number in
     elim (eqb old no-number) [
-      true ↦ cond (any-below (m .acts) (surely-below m δ N n p)) n no-number
-    | false ↦ old ]
+      | true ↦ cond (any-below (m .acts) (surely-below m δ N n p)) n no-number
+      | false ↦ old
+    ]
 
 abbrev pub numbers-to : Meaning → Prog → ℕ → List ℕ
 numbers-to m δ zero = table (positions m δ) (λ p. cond (may-stop m δ p) 0 no-number)
@@ -143,7 +145,7 @@ first-act m δ N p n = act-or-none (lowest (m .acts) (surely-below m δ N n p))
 abbrev pub acts-for : Meaning → Prog → List ℕ → List ℕ
 acts-for m δ N =
     table (positions m δ)
-      (λ p. let n = getD N p no-number in elim (eqb n 0 || eqb n no-number) [ true ↦ no-act | false ↦ first-act m δ N p n ])
+    (λ p. let n = getD N p no-number in elim (eqb n 0 || eqb n no-number) [ true ↦ no-act | false ↦ first-act m δ N p n ])
 
 abbrev pub acts : Meaning → Prog → List ℕ
 acts m δ = acts-for m δ (numbers m δ)
@@ -174,8 +176,9 @@ make m δ n a = elim (fits m δ n a) [ true ↦ made-from m (numbers m δ) | fal
 abbrev pub tables-after : Meaning → Prog → List ℕ → List ℕ → List ℕ × List ℕ
 tables-after m δ N A =
     elim (fits m δ (length N) (length A)) [
-      true ↦ (numbers m δ ++ drop (positions m δ) N, acts m δ ++ drop (positions m δ) A)
-    | false ↦ (N, A) ]
+      | true ↦ (numbers m δ ++ drop (positions m δ) N, acts m δ ++ drop (positions m δ) A)
+      | false ↦ (N, A)
+    ]
 
 -- oversize is fault 12, no sure sheet fault 13
 abbrev pub make-fault : Made → Option Fault

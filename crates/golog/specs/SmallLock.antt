@@ -31,14 +31,15 @@ may-react marked left s a e =
 abbrev pub small-lock : (ℕ → ℕ → Bool) → ℕ → Meaning
 small-lock marked k =
     record {
-        states = 4 * suc k;
-        facts = 2;
-        acts = 2;
-        first = k;
-        holds = λ t i. ltb t (4 * suc k) && (ltb i 2 && valuation (t / suc k) i);
-        allowed = λ t a. bare-allowed (t / suc k) a;
-        possible = λ t a e. may-react marked (t % suc k) (t / suc k) a e;
-        after =
+      states = 4 * suc k;
+      facts = 2;
+      acts = 2;
+      first = k;
+      holds = λ t i. ltb t (4 * suc k) && (ltb i 2 && valuation (t / suc k) i);
+      allowed = λ t a. bare-allowed (t / suc k) a;
+      possible = λ t a e. may-react marked (t % suc k) (t / suc k) a e;
+      after =
           λ t a e.
-            cond (may-react marked (t % suc k) (t / suc k) a e)
-              (bare-after (t / suc k) a e * suc k + cond (marked a e) (t % suc k - 1) (t % suc k)) 0 }
+          cond (may-react marked (t % suc k) (t / suc k) a e)
+          (bare-after (t / suc k) a e * suc k + cond (marked a e) (t % suc k - 1) (t % suc k)) 0;
+    }
