@@ -1,1 +1,4 @@
 mod Bridge
+mod Complete
+mod Sound
+mod ReadingProof

@@ -38,7 +38,7 @@ pub data CondReads (N : Names) : CondSort → List Word → Cond → Type 0 wher
   a-true : CondReads N literal (cond-begins true-word ∷ []) always
   a-false : CondReads N literal (cond-begins false-word ∷ []) never
   a-not : {ws : List Word} {c : Cond} → CondReads N literal ws c → CondReads N literal (cond-begins not-word ∷ ws) (negated c)
-  in-brackets : {ws : List Word} {c : Cond} → CondReads N disjunction ws c → CondReads N literal (open-round ∷ ws ++ close-round ∷ []) c
+  in-brackets : {ws : List Word} {c : Cond} → CondReads N disjunction ws c → CondReads N literal (open-round ∷ (ws ++ close-round ∷ [])) c
   one-literal : {ws : List Word} {c : Cond} → CondReads N literal ws c → CondReads N conjunction ws c
   an-and : {ws us : List Word} {c d : Cond} → CondReads N conjunction ws c → CondReads N literal us d →
       CondReads N conjunction (ws ++ cond-behind and-word ∷ us) (both c d)
@@ -54,13 +54,13 @@ pub data Sort : Type 0 where
 pub data Reads (N : Names) : Sort → List Word → Prog → Type 0 where
   an-act : {w : List ℕ} {a : ℕ} → number-of (N .acts) w ≡ some a → Reads N atom (name w ∷ []) (act a)
   a-test : {ws : List Word} {c : Cond} → CondReads N disjunction ws c →
-      Reads N atom (begins open-square ∷ ws ++ cond-behind close-square ∷ []) (test c)
+      Reads N atom (begins open-square ∷ (ws ++ cond-behind close-square ∷ [])) (test c)
   a-nil : Reads N atom (begins nil-word ∷ []) nil
-  in-brackets : {ws : List Word} {p : Prog} → Reads N choice ws p → Reads N atom (open-round ∷ ws ++ close-round ∷ []) p
+  in-brackets : {ws : List Word} {p : Prog} → Reads N choice ws p → Reads N atom (open-round ∷ (ws ++ close-round ∷ [])) p
   an-if : {cs ps qs : List Word} {c : Cond} {p q : Prog} → CondReads N disjunction cs c → Reads N choice ps p → Reads N choice qs q →
-      Reads N atom (begins if-word ∷ cs ++ cond-behind then-word ∷ ps ++ behind else-word ∷ qs ++ behind fi-word ∷ []) (if-then-else c p q)
+      Reads N atom (begins if-word ∷ (cs ++ (cond-behind then-word ∷ (ps ++ (behind else-word ∷ (qs ++ behind fi-word ∷ [])))))) (if-then-else c p q)
   a-while : {cs ps : List Word} {c : Cond} {p : Prog} → CondReads N disjunction cs c → Reads N choice ps p →
-      Reads N atom (begins while-word ∷ cs ++ cond-behind do-word ∷ ps ++ behind od-word ∷ []) (while-do c p)
+      Reads N atom (begins while-word ∷ (cs ++ (cond-behind do-word ∷ (ps ++ behind od-word ∷ [])))) (while-do c p)
   one-atom : {ws : List Word} {p : Prog} → Reads N atom ws p → Reads N item ws p
   a-star : {ws : List Word} {p : Prog} → Reads N item ws p → Reads N item (ws ++ behind asterisk ∷ []) (star p)
   one-item : {ws : List Word} {p : Prog} → Reads N item ws p → Reads N sequence ws p

@@ -266,20 +266,23 @@ finish len (have (x ∷ K) A p) = refused (misplaced len)
 finish len (want-cond K A B L O) = refused (misplaced len)
 finish len (have-cond K A B L O c) = refused (misplaced len)
 
--- The words of a text of so many bytes, after n words and k act words. At each word the faults are tried by rising number.
-abbrev pub read-on : Names → ℕ → ℕ → ℕ → State → List Token → Reading
-read-on N len n k s [] = finish len s
-read-on N len n k s (t ∷ ts) =
-    elim (advance N s (t .word)) [
-      | goes r ↦ elim (in-limits (suc n) k r) [ true ↦ read-on N len (suc n) k r ts | false ↦ refused (over-limit (t .offset)) ]
-      | goes-by-act r ↦
-          elim (in-limits (suc n) (suc k) r) [ true ↦ read-on N len (suc n) (suc k) r ts | false ↦ refused (over-limit (t .offset)) ]
-      | misfit ↦ refused (misplaced (t .offset))
-      | unfamiliar ↦ refused (unknown (t .offset))
-    ]
+-- what becomes of a word at the offset o, after n words and k act words; f reads on. The faults are tried by rising number.
+abbrev pub in-limit : ℕ → ℕ → ℕ → (ℕ → ℕ → State → Reading) → State → Reading
+in-limit o n k f s = elim (in-limits n k s) [ true ↦ f n k s | false ↦ refused (over-limit o) ]
+
+abbrev pub after-word : ℕ → ℕ → ℕ → (ℕ → ℕ → State → Reading) → Advance → Reading
+after-word o n k f (goes s) = in-limit o (suc n) k f s
+after-word o n k f (goes-by-act s) = in-limit o (suc n) (suc k) f s
+after-word o n k f misfit = refused (misplaced o)
+after-word o n k f unfamiliar = refused (unknown o)
+
+-- the words of a text of so many bytes, after n words and k act words
+abbrev pub read-on : Names → ℕ → List Token → ℕ → ℕ → State → Reading
+read-on N len [] n k s = finish len s
+read-on N len (t ∷ ts) n k s = after-word (t .offset) n k (read-on N len ts) (advance N s (t .word))
 
 abbrev pub read : Names → List ℕ → Reading
-read N text = read-on N (length text) 0 0 start (tokens text)
+read N text = read-on N (length text) (tokens text) 0 0 start
 
 -- Reading finds the tree that the grammar gives, and of a text that the grammar gives a tree only a limit can stop it.
 abbrev pub ReadingIsGrammar : Type 0

@@ -1,10 +1,26 @@
 // The meaning of routines, sheets and jobs, and the theorems that say that it fits together.
 ghost use Rattle.golog.specs.Points.{NextIsTrans};
+ghost use Rattle.golog.specs.Grammar.{OneTree};
+ghost use Rattle.golog.specs.Reading.{ReadingIsGrammar};
 ghost use Rattle.golog.specs.Cases.{CasesComeOut};
 
 // Trans, on the trees that remain, is coming next, on points.
 pub fn bridge_stands() -> u8
     ensures { λ _. ⌜ NextIsTrans ⌝ }
+{
+    0
+}
+
+// A text has at most one tree.
+pub fn one_tree_stands() -> u8
+    ensures { λ _. ⌜ OneTree ⌝ }
+{
+    0
+}
+
+// Reading a text finds the tree that the grammar gives it; only a limit can come between.
+pub fn reading_stands() -> u8
+    ensures { λ _. ⌜ ReadingIsGrammar ⌝ }
 {
     0
 }
