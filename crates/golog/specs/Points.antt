@@ -72,11 +72,11 @@ takes (seq p q) v a = takes p v a || (Final p v && takes q v a)
 takes (alt p q) v a = takes p v a || takes q v a
 takes (star p) v a = takes p v a
 
--- The point q comes next from the point p: the remainder of p may take the act word before q.
+-- The point q comes next from the point p: the remainder of p may take the act word before q. Its being allowed is left aside.
 abbrev pub next : Prog → Valuation → ℕ → ℕ → Bool
 next δ v p q = takes (rem (numbered δ) p) v q
 
--- A point goes on when it may stop or some point comes next.
+-- A point may stop where its remainder is final. It goes on when it may stop or some point comes next.
 abbrev pub goes-on : Prog → Valuation → ℕ → Bool
 goes-on δ v p = Final (rem δ p) v || any-below (points δ) (next δ v p)
 
@@ -94,7 +94,7 @@ OneWay δ = (p q r : ℕ) → q < r → Together δ p q r → GoOnTogether δ q 
 
 -- The n-th valuation: fact i is true where bit i of n is set. Those below 2 ^ facts are all the valuations of so many facts.
 abbrev pub valuation : ℕ → Valuation
-valuation n i = eqb (n / 2 ^ i % 2) 1
+valuation n i = eqb ((n / (2 ^ i)) % 2) 1
 
 -- the two parts, tried over the valuations of so many facts
 abbrev pub together : ℕ → Prog → ℕ → ℕ → ℕ → Bool
@@ -116,11 +116,11 @@ pub data Ways : Type 0 where
 -- the triple of points that the number k stands for, among those of n points in rising order
 abbrev ways-of : ℕ → Option ℕ → Ways
 ways-of n none = one-way
-ways-of n (some k) = two-ways (k / (n * n)) (k / n % n) (k % n)
+ways-of n (some k) = two-ways (k / (n * n)) ((k / n) % n) (k % n)
 
 abbrev pub ways : ℕ → Prog → Ways
 ways facts δ =
-    let n = points δ in ways-of n (lowest (n * n * n) (λ k. two-ways-at facts δ (k / (n * n)) (k / n % n) (k % n)))
+    let n = points δ in ways-of n (lowest (n * n * n) (λ k. two-ways-at facts δ (k / (n * n)) ((k / n) % n) (k % n)))
 
 -- two ways are fault 11
 abbrev pub ways-fault : Ways → Option Fault

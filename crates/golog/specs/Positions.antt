@@ -30,9 +30,13 @@ first-position m = m .first
 abbrev pub facts-at : Meaning → ℕ → Valuation
 facts-at m p = m .holds (state-of m p)
 
+-- what remains at a position; with its state it is the position's standing
+abbrev pub rem-at : Meaning → Prog → ℕ → Prog
+rem-at m δ p = rem δ (point-of m p)
+
 -- A position may stop where what remains is final.
 abbrev pub may-stop : Meaning → Prog → ℕ → Bool
-may-stop m δ p = Final (rem δ (point-of m p)) (facts-at m p)
+may-stop m δ p = Final (rem-at m δ p) (facts-at m p)
 
 -- the point k comes next from the position by the act
 abbrev pub next-by : Meaning → Prog → ℕ → ℕ → ℕ → Bool

@@ -129,7 +129,7 @@ abbrev pub numbers-to : Meaning → Prog → ℕ → List ℕ
 numbers-to m δ zero = table (positions m δ) (λ p. cond (may-stop m δ p) 0 no-number)
 numbers-to m δ (suc n) = let N = numbers-to m δ n in table (positions m δ) (numbered-by m δ (suc n) N)
 
--- Make's numbers: no number is as large as the count of positions.
+-- Make's numbers. Each round that adds no row is the last that could, so there are at most as many as positions.
 abbrev pub numbers : Meaning → Prog → List ℕ
 numbers m δ = numbers-to m δ (positions m δ)
 
