@@ -51,7 +51,7 @@ pub data Lead : Type 0 where
   to : ℕ → Lead
   lost : Lead
 
-abbrev lead-to : Meaning → ℕ → Option ℕ → Lead
+abbrev pub lead-to : Meaning → ℕ → Option ℕ → Lead
 lead-to m s none = lost
 lead-to m s (some k) = to (position m k s)
 

@@ -7,7 +7,7 @@ use mathlib.Core.Option.{Option, none, some}
 use mathlib.Core.Path.{_≡_}
 use lib.Dec.{ltb, leb, eqb}
 use lib.ListN.{length, getD, drop}
-use Rattle.locks.specs.Meaning.{Meaning, reactions, any-below}
+use Rattle.locks.specs.Meaning.{Meaning, Lawful, Live, reactions, any-below}
 use Rattle.golog.specs.Search.{all-below, lowest, table}
 use Rattle.golog.specs.Faults.{Fault, positions-layer, sheet-layer}
 use Rattle.golog.specs.Programs.{Prog}
@@ -89,7 +89,7 @@ abbrev pub spoils-sheet : Meaning → Prog → List ℕ → List ℕ → ℕ →
 spoils-sheet m δ N A p =
     not (sound-row m δ N p (row m δ N A p)) || (eqb p (first-position m) && not (has-row (row m δ N A p)))
 
-abbrev passed-by : Option ℕ → Passed
+abbrev pub passed-by : Option ℕ → Passed
 passed-by none = accepted
 passed-by (some p) = false-row p
 
@@ -99,6 +99,16 @@ pass m δ N A =
       | true ↦ passed-by (lowest (positions m δ) (spoils-sheet m δ N A))
       | false ↦ too-large (positions m δ)
     ]
+
+-- Pass accepts exactly the sheets that are to be accepted; it finds the size first, and then the lowest position that spoils the sheet.
+abbrev pub PassIsAccepts : Type 0
+PassIsAccepts =
+    (m : Meaning) → Lawful m → (δ : Prog) (N A : List ℕ) →
+    (pass m δ N A ≡ accepted → Accepts m δ N A)
+    × (Accepts m δ N A → pass m δ N A ≡ accepted)
+    × ((n : ℕ) → pass m δ N A ≡ too-large n → (fits m δ (length N) (length A) ≡ false) × (n ≡ positions m δ))
+    × ((p : ℕ) → pass m δ N A ≡ false-row p →
+    (p < positions m δ) × (spoils-sheet m δ N A p ≡ true) × ((q : ℕ) → q < p → spoils-sheet m δ N A q ≡ false))
 
 -- too large is fault 12, a false row fault 14
 abbrev pub pass-fault : Passed → Option Fault
@@ -132,6 +142,17 @@ numbers-to m δ (suc n) = let N = numbers-to m δ n in table (positions m δ) (n
 -- Make's numbers. Each round that adds no row is the last that could, so there are at most as many as positions.
 abbrev pub numbers : Meaning → Prog → List ℕ
 numbers m δ = numbers-to m δ (positions m δ)
+
+-- Make's number is the least n within which one can surely come to stop, and no row where there is none.
+-- It is at most the count of positions, and below it if each allowed act has a reaction.
+abbrev pub NumbersAreLeast : Type 0
+NumbersAreLeast =
+    (m : Meaning) → Lawful m → (δ : Prog) → positions m δ ≤ most-positions → (p : ℕ) → p < positions m δ →
+    ((getD (numbers m δ) p no-number ≤ positions m δ)
+    × (Live m → getD (numbers m δ) p no-number < positions m δ)
+    × Within m δ (getD (numbers m δ) p no-number) p
+    × ((k : ℕ) → Within m δ k p → getD (numbers m δ) p no-number ≤ k))
+    ⊎ ((getD (numbers m δ) p no-number ≡ no-number) × ((k : ℕ) → Within m δ k p → ⊥))
 
 -- the first act, in rising number, that surely leads below n
 abbrev act-or-none : Option ℕ → ℕ

@@ -2,6 +2,7 @@
 ghost use Rattle.golog.specs.Points.{NextIsTrans};
 ghost use Rattle.golog.specs.Grammar.{OneTree};
 ghost use Rattle.golog.specs.Reading.{ReadingIsGrammar};
+ghost use Rattle.golog.specs.Sheets.{PassIsAccepts, NumbersAreLeast};
 ghost use Rattle.golog.specs.Cases.{CasesComeOut};
 
 // Trans, on the trees that remain, is coming next, on points.
@@ -21,6 +22,20 @@ pub fn one_tree_stands() -> u8
 // Reading a text finds the tree that the grammar gives it; only a limit can come between.
 pub fn reading_stands() -> u8
     ensures { λ _. ⌜ ReadingIsGrammar ⌝ }
+{
+    0
+}
+
+// Pass's answer is that the first position has a row and every row is true, and else the lowest ground.
+pub fn pass_stands() -> u8
+    ensures { λ _. ⌜ PassIsAccepts ⌝ }
+{
+    0
+}
+
+// Make's numbers are the least within which one can surely come to stop.
+pub fn numbers_stand() -> u8
+    ensures { λ _. ⌜ NumbersAreLeast ⌝ }
 {
     0
 }
