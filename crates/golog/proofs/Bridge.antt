@@ -13,7 +13,7 @@ use Rattle.std.proofs.shelf.Lists.{getD-append-left, getD-append-add}
 use Rattle.golog.specs.Programs.{Valuation, Cond, Prog, nil, Final, Step}
 use Rattle.golog.specs.Programs.Prog.{act, test, seq, alt, star}
 use Rattle.golog.specs.Programs.Step.{by-act, in-first, in-second, in-left, in-right, in-star}
-use Rattle.golog.specs.Points.{act-words, words, word, rem, numbered-from, numbered, takes, next, NextIsTrans}
+use Rattle.golog.specs.Points.{act-words, words, points, word, rem, numbered-from, numbered, takes, next, NextIsTrans}
 
 -- a program with its acts renamed
 abbrev renamed : (ℕ → ℕ) → Prog → Prog
@@ -304,3 +304,10 @@ bridge δ v p a δ′ = (
       subst (λ x. Step v a x δ′) (named-rem δ p) (subst (λ x. Step v a (renamed (word δ) (rem (numbered δ) p)) x) w
       (subst (λ x. Step v x (renamed (word δ) (rem (numbered δ) p)) (renamed (word δ) ρ′)) e u)),
 )
+
+-- a next point is a point
+pub next-in : (δ : Prog) (v : Valuation) (p q : ℕ) → next δ v p q ≡ true → q < points δ
+next-in δ v p q n =
+    let (ρ′, t) = takes-step (rem (numbered δ) p) v q n in
+    let (i, e, h, _) = at-point δ 0 v p q ρ′ t in
+    omega arith

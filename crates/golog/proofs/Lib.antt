@@ -5,3 +5,5 @@ mod ReadingProof
 mod Searches
 mod Passing
 mod Numbers
+mod Choosing
+mod Sure

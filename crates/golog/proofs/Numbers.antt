@@ -20,7 +20,7 @@ use Rattle.golog.specs.Sheets.{no-number, most-positions, number-at, lead-belo
 use Rattle.golog.proofs.Searches.{any-found, any-from, all-found, all-from, lowest-some, getD-table, length-table, table-from-same}
 
 -- a reaction leads to a position
-lead-found : (m : Meaning) (s : ℕ) (x : Option ℕ) (q : ℕ) → lead-to m s x ≡ to q → (k : ℕ) × (x ≡ some k) × (position m k s ≡ q)
+pub lead-found : (m : Meaning) (s : ℕ) (x : Option ℕ) (q : ℕ) → lead-to m s x ≡ to q → (k : ℕ) × (x ≡ some k) × (position m k s ≡ q)
 lead-found m s none q e = let z : _≡_ {A = ℕ} 0 1 = cc in absurd (omega arith)
 lead-found m s (some k) q e = (k, refl, cc)
 

@@ -5,6 +5,7 @@ pub mod Points
 pub mod Positions
 pub mod Standings
 pub mod Sheets
+pub mod Sureness
 pub mod Jobs
 pub mod Words
 pub mod Grammar

@@ -3,6 +3,7 @@ ghost use Rattle.golog.specs.Points.{NextIsTrans};
 ghost use Rattle.golog.specs.Grammar.{OneTree};
 ghost use Rattle.golog.specs.Reading.{ReadingIsGrammar};
 ghost use Rattle.golog.specs.Sheets.{PassIsAccepts, NumbersAreLeast};
+ghost use Rattle.golog.specs.Sureness.{WithinIsEnding, MakeIsSure};
 ghost use Rattle.golog.specs.Cases.{CasesComeOut};
 
 // Trans, on the trees that remain, is coming next, on points.
@@ -36,6 +37,20 @@ pub fn pass_stands() -> u8
 // Make's numbers are the least within which one can surely come to stop.
 pub fn numbers_stand() -> u8
     ensures { λ _. ⌜ NumbersAreLeast ⌝ }
+{
+    0
+}
+
+// Coming to stop surely, by positions, is having a way of choosing that ends.
+pub fn ways_of_choosing_stand() -> u8
+    ensures { λ _. ⌜ WithinIsEnding ⌝ }
+{
+    0
+}
+
+// Make answers that there is no sure sheet exactly when no way of choosing ends, and else the least number.
+pub fn sureness_stands() -> u8
+    ensures { λ _. ⌜ MakeIsSure ⌝ }
 {
     0
 }
