@@ -135,7 +135,7 @@ step-takes (in-left s) = or-left _ _ (step-takes s)
 step-takes {v = v} {a = a} (in-right {p = p} s) = or-right (takes p v a) _ (step-takes s)
 step-takes (in-star s) = step-takes s
 
-words-numbered : (n : ℕ) (δ : Prog) → words (numbered-from n δ) ≡ words δ
+pub words-numbered : (n : ℕ) (δ : Prog) → words (numbered-from n δ) ≡ words δ
 words-numbered n (act a) = refl
 words-numbered n (test c) = refl
 words-numbered n (seq p q) = simp (length-append, words-numbered n p, words-numbered (n + words p) q)

@@ -7,3 +7,4 @@ mod Passing
 mod Numbers
 mod Choosing
 mod Sure
+mod OneWays

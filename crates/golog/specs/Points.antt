@@ -1,5 +1,5 @@
 -- The points of a program, what remains at each, and which come next.
-use Prim.Native.Nat.{ℕ, zero, suc, _+_, _-_, _*_, _/_, _%_, _^_, _<_}
+use Prim.Native.Nat.{ℕ, zero, suc, _+_, _-_, _*_, _/_, _%_, _^_, _<_, _≤_}
 use mathlib.Core.Bool.{Bool, true, false, cond, not, _&&_, _||_}
 use mathlib.Core.List.{List, [], _∷_, _++_}
 use mathlib.Core.Option.{Option, none, some}
@@ -9,7 +9,7 @@ use lib.ListN.{length, getD}
 use Rattle.locks.specs.Meaning.{any-below}
 use Rattle.golog.specs.Search.{lowest}
 use Rattle.golog.specs.Faults.{Fault, routine-layer}
-use Rattle.golog.specs.Programs.{Valuation, Cond, Prog, nil, Final, Step}
+use Rattle.golog.specs.Programs.{Valuation, Cond, Prog, nil, names-below, Final, Step}
 use Rattle.golog.specs.Programs.Cond.{never}
 use Rattle.golog.specs.Programs.Prog.{act, test, seq, alt, star}
 
@@ -114,7 +114,7 @@ pub data Ways : Type 0 where
   two-ways : ℕ → ℕ → ℕ → Ways
 
 -- the triple of points that the number k stands for, among those of n points in rising order
-abbrev ways-of : ℕ → Option ℕ → Ways
+abbrev pub ways-of : ℕ → Option ℕ → Ways
 ways-of n none = one-way
 ways-of n (some k) = two-ways (k / (n * n)) ((k / n) % n) (k % n)
 
@@ -122,10 +122,25 @@ abbrev pub ways : ℕ → Prog → Ways
 ways facts δ =
     let n = points δ in ways-of n (lowest (n * n * n) (λ k. two-ways-at facts δ (k / (n * n)) ((k / n) % n) (k % n)))
 
+-- the place of the two-ways fault
+abbrev pub ways-place : ℕ → ℕ → ℕ → ℕ
+ways-place p q r = p * 4096 + q * 64 + r
+
 -- two ways are fault 11
 abbrev pub ways-fault : Ways → Option Fault
 ways-fault one-way = none
-ways-fault (two-ways p q r) = some (record { number = 11; layer = routine-layer; place = p * 4096 + q * 64 + r })
+ways-fault (two-ways p q r) = some (record { number = 11; layer = routine-layer; place = ways-place p q r })
+
+-- The check over the valuations of so many facts finds one way exactly when there is one, of a program that names no other facts;
+-- and it finds two ways with the lowest place, of a program with at most 63 act words.
+abbrev pub WaysIsOneWay : Type 0
+WaysIsOneWay =
+    (facts : ℕ) (δ : Prog) → names-below facts δ ≡ true →
+    (ways facts δ ≡ one-way → OneWay δ)
+    × (OneWay δ → ways facts δ ≡ one-way)
+    × ((p q r : ℕ) → ways facts δ ≡ two-ways p q r →
+    (q < r) × Together δ p q r × GoOnTogether δ q r
+    × (words δ ≤ 63 → (p′ q′ r′ : ℕ) → q′ < r′ → Together δ p′ q′ r′ → GoOnTogether δ q′ r′ → ways-place p q r ≤ ways-place p′ q′ r′))
 
 -- The steps of a point's remainder are exactly the points that come next: a step by an act leads to what remains
 -- at a next point with that act word before it, and each next point is had by such a step.

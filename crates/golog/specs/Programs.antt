@@ -2,6 +2,7 @@
 use Prim.Native.Nat.{ℕ}
 use mathlib.Core.Bool.{Bool, true, false, not, _&&_, _||_}
 use mathlib.Core.Path.{_≡_}
+use lib.Dec.{ltb}
 use Rattle.locks.specs.Meaning.{Meaning}
 
 -- A valuation: which facts are true.
@@ -44,6 +45,22 @@ if-then-else c p q = alt (seq (test c) p) (seq (test (negated c)) q)
 
 abbrev pub while-do : Cond → Prog → Prog
 while-do c p = seq (star (seq (test c) p)) (test (negated c))
+
+-- whether a condition, and a program, names no fact but those below a number
+abbrev pub cond-names-below : ℕ → Cond → Bool
+cond-names-below n always = true
+cond-names-below n never = true
+cond-names-below n (fact i) = ltb i n
+cond-names-below n (negated c) = cond-names-below n c
+cond-names-below n (both c d) = cond-names-below n c && cond-names-below n d
+cond-names-below n (any c d) = cond-names-below n c && cond-names-below n d
+
+abbrev pub names-below : ℕ → Prog → Bool
+names-below n (act a) = true
+names-below n (test c) = cond-names-below n c
+names-below n (seq p q) = names-below n p && names-below n q
+names-below n (alt p q) = names-below n p && names-below n q
+names-below n (star p) = names-below n p
 
 -- Final: the program may stop under the valuation.
 abbrev pub Final : Prog → Valuation → Bool

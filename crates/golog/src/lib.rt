@@ -1,5 +1,5 @@
 // The meaning of routines, sheets and jobs, and the theorems that say that it fits together.
-ghost use Rattle.golog.specs.Points.{NextIsTrans};
+ghost use Rattle.golog.specs.Points.{NextIsTrans, WaysIsOneWay};
 ghost use Rattle.golog.specs.Grammar.{OneTree};
 ghost use Rattle.golog.specs.Reading.{ReadingIsGrammar};
 ghost use Rattle.golog.specs.Sheets.{PassIsAccepts, NumbersAreLeast};
@@ -9,6 +9,13 @@ ghost use Rattle.golog.specs.Cases.{CasesComeOut};
 // Trans, on the trees that remain, is coming next, on points.
 pub fn bridge_stands() -> u8
     ensures { λ _. ⌜ NextIsTrans ⌝ }
+{
+    0
+}
+
+// The check for two ways decides whether a program has one way, and tells the lowest place.
+pub fn one_way_stands() -> u8
+    ensures { λ _. ⌜ WaysIsOneWay ⌝ }
 {
     0
 }
