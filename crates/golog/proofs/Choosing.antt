@@ -156,7 +156,7 @@ ends-shift m f g (suc n) h k δ s same (inr (a, x, t, all)) =
     here = ap f (sym (append-nil h)) ∙ (same [] ∙ ap g (append-nil k))
 
 -- a next point by an act is had by a step
-next-by-step : (m : Meaning) (δ : Prog) (p a k : ℕ) → next-by m δ p a k ≡ true → Step (facts-at m p) a (rem-at m δ p) (rem δ k)
+pub next-by-step : (m : Meaning) (δ : Prog) (p a k : ℕ) → next-by m δ p a k ≡ true → Step (facts-at m p) a (rem-at m δ p) (rem δ k)
 next-by-step m δ p a k h =
     let (n, w) = and-parts (next δ (facts-at m p) (point-of m p) k) (eqb (word δ k) a) h in
     bridge δ (facts-at m p) (point-of m p) a (rem δ k) .1 k n (eqb-true (word δ k) a w) refl
@@ -196,7 +196,7 @@ within-ends m law live δ (suc n) p (inr (a, u, k)) =
     )
 
 -- the first standing
-first-standing : (m : Meaning) → Lawful m → (δ : Prog) → (rem-at m δ (first-position m) ≡ δ) × (state-of m (first-position m) ≡ m .first)
+pub first-standing : (m : Meaning) → Lawful m → (δ : Prog) → (rem-at m δ (first-position m) ≡ δ) × (state-of m (first-position m) ≡ m .first)
 first-standing m law δ =
     (ap (rem δ) (div-eq-of-lt (law .first-below)) ∙ rem-zero δ, mod-eq-of-lt (law .first-below))
 

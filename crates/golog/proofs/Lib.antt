@@ -8,3 +8,6 @@ mod Numbers
 mod Choosing
 mod Sure
 mod OneWays
+mod Accepted
+mod PlainJob
+mod ReadBounds

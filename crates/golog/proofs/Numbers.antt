@@ -55,7 +55,7 @@ pub within-stop : (m : Meaning) (δ : Prog) (n p : ℕ) → may-stop m δ p ≡ 
 within-stop m δ n p h = within-le m δ 0 n p (omega arith) h
 
 -- the number at a position, looked up
-number-in : (m : Meaning) (δ : Prog) (N : List ℕ) (q : ℕ) → q < positions m δ → number-at m δ N q ≡ getD N q no-number
+pub number-in : (m : Meaning) (δ : Prog) (N : List ℕ) (q : ℕ) → q < positions m δ → number-at m δ N q ≡ getD N q no-number
 number-in m δ N q h = cond-true (ltb q (positions m δ)) (getD N q no-number) no-number (lt-ltb q (positions m δ) h)
 
 below-found : (m : Meaning) (δ : Prog) (N : List ℕ) (n : ℕ) (x : Lead) → lead-below m δ N n x ≡ true →

@@ -19,10 +19,10 @@ use Rattle.golog.proofs.Complete.{Runs, moved, same-state, none-some, prog-run
 use Rattle.golog.proofs.Complete.Runs.{stay, move}
 use Rattle.golog.proofs.Sound.{whole-text}
 
-not-a-tree : {f : TextFault} {t : Prog} → refused f ≡ tree t → ⊥
+pub not-a-tree : {f : TextFault} {t : Prog} → refused f ≡ tree t → ⊥
 not-a-tree {f} {t} e = let z : _≡_ {A = ℕ} 0 1 = cc in omega arith
 
-same-tree : {t u : Prog} → _≡_ {A = Reading} (tree t) (tree u) → t ≡ u
+pub same-tree : {t u : Prog} → _≡_ {A = Reading} (tree t) (tree u) → t ≡ u
 same-tree e = cc
 
 limit-tree : (b : Bool) (x : Reading) (o : ℕ) (t : Prog) → _≡_ {A = Reading} (elim b [ true ↦ x | false ↦ refused (over-limit o) ]) (tree t) → x ≡ tree t

@@ -23,30 +23,27 @@ pub fits-few : (m : Meaning) (δ : Prog) (n a : ℕ) → fits m δ n a ≡ true 
 fits-few m δ n a e =
     leb-true (positions m δ) most-positions (and-parts (leb (positions m δ) most-positions) (leb (positions m δ) n && leb (positions m δ) a) e .0)
 
-make-fits : (m : Meaning) (δ : Prog) (n a : ℕ) → fits m δ n a ≡ true → make m δ n a ≡ made-from m (numbers m δ)
+pub make-fits : (m : Meaning) (δ : Prog) (n a : ℕ) → fits m δ n a ≡ true → make m δ n a ≡ made-from m (numbers m δ)
 make-fits m δ n a e =
     let g : Bool → Made = λ b. elim b [ true ↦ made-from m (numbers m δ) | false ↦ oversize (positions m δ) ] in
     ap g e
 
 module _ (m : Meaning) (δ : Prog) where
   -- the first position's number
-  first-number : ℕ
+  abbrev pub first-number : ℕ
   first-number = getD (numbers m δ) (first-position m) no-number
 
-  made-some : (n a : ℕ) → fits m δ n a ≡ true → first-number < no-number → make m δ n a ≡ made first-number (row-count (numbers m δ))
-  unfolding first-number
+  pub made-some : (n a : ℕ) → fits m δ n a ≡ true → first-number < no-number → make m δ n a ≡ made first-number (row-count (numbers m δ))
   made-some n a e l =
       make-fits m δ n a e
       ∙ cond-false (eqb first-number no-number) (no-sheet (first-position m)) (made first-number (row-count (numbers m δ))) (ne-eqb first-number no-number (λ x. omega arith))
 
-  made-none : (n a : ℕ) → fits m δ n a ≡ true → first-number ≡ no-number → make m δ n a ≡ no-sheet (first-position m)
-  unfolding first-number
+  pub made-none : (n a : ℕ) → fits m δ n a ≡ true → first-number ≡ no-number → make m δ n a ≡ no-sheet (first-position m)
   made-none n a e l =
       make-fits m δ n a e
       ∙ cond-true (eqb first-number no-number) (no-sheet (first-position m)) (made first-number (row-count (numbers m δ))) (eq-eqb first-number no-number l)
 
 pub make-is-sure : MakeIsSure
-unfolding first-number
 make-is-sure m law live δ one n a e =
     elim (numbers-are-least m law δ (fits-few m δ n a e) (first-position m) (first-in m law δ)) [
       | inl (b, _, w, least) ↦

@@ -20,7 +20,7 @@ pub record Names : Type 0 where
   pub acts : List (List ℕ)
 
 -- the number of a name in a list: of the first entry that is the same word
-abbrev one-up : Option ℕ → Option ℕ
+abbrev pub one-up : Option ℕ → Option ℕ
 one-up none = none
 one-up (some i) = some (suc i)
 

@@ -1,15 +1,17 @@
 -- The plain job: what a job on a sheet does, as a machine.
-use Prim.Native.Nat.{ℕ, suc}
+use Prim.Native.Nat.{ℕ, zero, suc}
 use mathlib.Core.Bool.{Bool, true, false, cond, _&&_}
-use mathlib.Core.List.{List, [], _∷_}
+use mathlib.Core.List.{List, [], _∷_, _++_}
+use mathlib.Core.Logic.{_⊎_}
 use mathlib.Core.Option.{Option, none, some}
+use mathlib.Core.Path.{_≡_}
 use lib.Dec.{ltb, eqb}
 use lib.ListN.{getD}
 use Rattle.locks.specs.Meaning.{Meaning}
 use Rattle.golog.specs.Faults.{Fault, job-layer}
 use Rattle.golog.specs.Programs.{Prog}
 use Rattle.golog.specs.Points.{no-act}
-use Rattle.golog.specs.Positions.{positions, state-of, first-position, Lead, lead}
+use Rattle.golog.specs.Positions.{positions, state-of, first-position, may-stop, Lead, lead}
 use Rattle.golog.specs.Positions.Lead.{to, lost}
 use Rattle.golog.specs.Sheets.{number-at}
 
@@ -121,3 +123,33 @@ abbrev pub plain-answers : Meaning → Prog → List ℕ → List ℕ → List C
 plain-answers m δ N A [] j = []
 plain-answers m δ N A (c ∷ cs) j =
     let r = plain-call m δ N A c j in r .1 ∷ plain-answers m δ N A cs (r .0)
+
+-- the act and reaction of a call that was a tell and was taken
+abbrev pub told-by : Call → Answer → Plain → List (ℕ × ℕ)
+told-by perform x j = []
+told-by (tell e) taken j = (j .act, e) ∷ []
+told-by (tell e) (refused f) j = []
+told-by (tell e) (seen v) j = []
+told-by ask x j = []
+told-by give-up x j = []
+
+-- the acts and reactions of the tells that were taken, of a list of calls
+abbrev pub plain-told : Meaning → Prog → List ℕ → List ℕ → List Call → Plain → List (ℕ × ℕ)
+plain-told m δ N A [] j = []
+plain-told m δ N A (c ∷ cs) j =
+    let r = plain-call m δ N A c j in told-by c (r .1) j ++ plain-told m δ N A cs (r .0)
+
+-- Given do when ready and any possible reaction when waiting, the job is finished after at most n tells, where Final holds,
+-- and none of these calls is turned back.
+abbrev pub Finished : Meaning → Prog → Plain → Type 0
+Finished m δ j = (j .phase ≡ finished) × (may-stop m δ (j .position) ≡ true)
+
+abbrev pub Finishes : Meaning → Prog → List ℕ → List ℕ → ℕ → Plain → Type 0
+Finishes m δ N A zero j = Finished m δ j
+Finishes m δ N A (suc n) j =
+    Finished m δ j
+    ⊎ ((j .phase ≡ ready)
+    × (plain-call m δ N A perform j .1 ≡ taken)
+    × ((e : ℕ) → m .possible (state-of m (j .position)) (plain-call m δ N A perform j .0 .act) e ≡ true →
+    (plain-call m δ N A (tell e) (plain-call m δ N A perform j .0) .1 ≡ taken)
+    × Finishes m δ N A n (plain-call m δ N A (tell e) (plain-call m δ N A perform j .0) .0)))

@@ -62,6 +62,14 @@ names-below n (seq p q) = names-below n p && names-below n q
 names-below n (alt p q) = names-below n p && names-below n q
 names-below n (star p) = names-below n p
 
+-- whether a program has no act but those below a number
+abbrev pub acts-below : ℕ → Prog → Bool
+acts-below n (act a) = ltb a n
+acts-below n (test c) = true
+acts-below n (seq p q) = acts-below n p && acts-below n q
+acts-below n (alt p q) = acts-below n p && acts-below n q
+acts-below n (star p) = acts-below n p
+
 -- Final: the program may stop under the valuation.
 abbrev pub Final : Prog → Valuation → Bool
 Final (act a) v = false

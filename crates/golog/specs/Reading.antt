@@ -1,5 +1,5 @@
 -- Reading a routine's text word by word, front to back, with the fault of the first word that has one.
-use Prim.Native.Nat.{ℕ, suc, _+_}
+use Prim.Native.Nat.{ℕ, suc, _+_, _≤_}
 use mathlib.Core.Bool.{Bool, true, false, _&&_}
 use mathlib.Core.List.{List, [], _∷_}
 use mathlib.Core.Logic.{_⊎_}
@@ -8,9 +8,10 @@ use mathlib.Core.Path.{_≡_}
 use lib.Dec.{leb}
 use lib.ListN.{length}
 use Rattle.golog.specs.Faults.{Fault, text-layer}
-use Rattle.golog.specs.Programs.{Cond, Prog, nil, if-then-else, while-do}
+use Rattle.golog.specs.Programs.{Cond, Prog, nil, if-then-else, while-do, names-below, acts-below}
 use Rattle.golog.specs.Programs.Cond.{always, never, fact, negated, both, any}
 use Rattle.golog.specs.Programs.Prog.{act, test, seq, alt, star}
+use Rattle.golog.specs.Points.{words}
 use Rattle.golog.specs.Words.{Word, Begin, Behind, CondBegin, CondBehind, Token, tokens}
 use Rattle.golog.specs.Words.Word.{name, open-round, close-round, begins, behind, cond-begins, cond-behind, strange}
 use Rattle.golog.specs.Words.Begin.{open-square, nil-word, if-word, while-word}
@@ -290,3 +291,9 @@ ReadingIsGrammar =
     (N : Names) (text : List ℕ) (t : Prog) →
     (read N text ≡ tree t → TextReads N text t)
     × (TextReads N text t → (read N text ≡ tree t) ⊎ ((o : ℕ) × (read N text ≡ refused (over-limit o))))
+
+-- The tree of a text that is read has only facts and acts that are listed, and at most 63 act words.
+abbrev pub ReadIsBounded : Type 0
+ReadIsBounded =
+    (N : Names) (text : List ℕ) (t : Prog) → read N text ≡ tree t →
+    (names-below (length (N .facts)) t ≡ true) × (acts-below (length (N .acts)) t ≡ true) × (words t ≤ most-act-words)

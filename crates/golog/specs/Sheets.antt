@@ -155,7 +155,7 @@ NumbersAreLeast =
     ⊎ ((getD (numbers m δ) p no-number ≡ no-number) × ((k : ℕ) → Within m δ k p → ⊥))
 
 -- the first act, in rising number, that surely leads below n
-abbrev act-or-none : Option ℕ → ℕ
+abbrev pub act-or-none : Option ℕ → ℕ
 act-or-none none = no-act
 act-or-none (some a) = a
 

@@ -1,14 +1,21 @@
 // The meaning of routines, sheets and jobs, and the theorems that say that it fits together.
 ghost use Rattle.golog.specs.Points.{NextIsTrans, WaysIsOneWay};
 ghost use Rattle.golog.specs.Grammar.{OneTree};
-ghost use Rattle.golog.specs.Reading.{ReadingIsGrammar};
+ghost use Rattle.golog.specs.Reading.{ReadingIsGrammar, ReadIsBounded};
 ghost use Rattle.golog.specs.Sheets.{PassIsAccepts, NumbersAreLeast};
-ghost use Rattle.golog.specs.Sureness.{WithinIsEnding, MakeIsSure};
+ghost use Rattle.golog.specs.Sureness.{WithinIsEnding, MakeIsSure, MadeIsAccepted, PlainFinishes, PlainTracks};
 ghost use Rattle.golog.specs.Cases.{CasesComeOut};
 
 // Trans, on the trees that remain, is coming next, on points.
 pub fn bridge_stands() -> u8
     ensures { λ _. ⌜ NextIsTrans ⌝ }
+{
+    0
+}
+
+// A text that is read names known facts and acts alone, and has at most 63 act words.
+pub fn read_bounds_stand() -> u8
+    ensures { λ _. ⌜ ReadIsBounded ⌝ }
 {
     0
 }
@@ -58,6 +65,27 @@ pub fn ways_of_choosing_stand() -> u8
 // Make answers that there is no sure sheet exactly when no way of choosing ends, and else the least number.
 pub fn sureness_stands() -> u8
     ensures { λ _. ⌜ MakeIsSure ⌝ }
+{
+    0
+}
+
+// Pass accepts what make makes.
+pub fn made_stands() -> u8
+    ensures { λ _. ⌜ MadeIsAccepted ⌝ }
+{
+    0
+}
+
+// The plain job on an accepted sheet, given do and possible reactions, finishes in time and where it may stop.
+pub fn plain_job_finishes() -> u8
+    ensures { λ _. ⌜ PlainFinishes ⌝ }
+{
+    0
+}
+
+// The plain job on an accepted sheet keeps its count, and Trans reaches its position, after any calls.
+pub fn plain_job_tracks() -> u8
+    ensures { λ _. ⌜ PlainTracks ⌝ }
 {
     0
 }
