@@ -1,28 +1,27 @@
 -- Pass accepts what make makes.
 use Prim.Native.Nat.{ℕ, zero, suc, _<_, _≤_}
-use mathlib.Core.Bool.{Bool, true, false, cond, _&&_, _||_}
+use mathlib.Core.Bool.{Bool, true, false, _&&_, _||_}
 use mathlib.Core.List.{List, _++_}
-use mathlib.Core.Logic.{_⊎_, inl, inr}
+use mathlib.Core.Logic.{inl, inr}
 use mathlib.Core.Option.{Option, none, some}
 use mathlib.Core.Path.{_≡_, refl, sym, _∙_, ap, subst}
 use native.Mathlib.Omega.{arith}
 use lib.Dec.{ltb, leb, eqb}
-use lib.ListN.{length, getD, drop, length-append, length-drop}
+use lib.ListN.{length, getD, drop, length-append}
 use Rattle.std.proofs.shelf.Lists.{getD-append-left}
-use Rattle.std.proofs.shelf.Tests.{cases-bool, cases-eq, and-parts, and-from, or-left, or-right, or-from, leb-true, le-leb, eqb-true, eq-eqb, ne-eqb, lt-ltb, cond-true, cond-false, both-ways}
+use Rattle.std.proofs.shelf.Tests.{cases-eq, and-from, or-left, or-right, or-from, le-leb, eq-eqb, ne-eqb, lt-ltb, cond-true, cond-false, both-ways}
 use Rattle.locks.specs.Meaning.{Meaning, Lawful, Live}
-use Rattle.golog.specs.Search.{lowest, table}
+use Rattle.golog.specs.Search.{lowest}
 use Rattle.golog.specs.Programs.{Prog}
 use Rattle.golog.specs.Points.{no-act}
-use Rattle.golog.specs.Positions.{positions, state-of, first-position, may-stop, usable, Lead, lead}
-use Rattle.golog.specs.Positions.Lead.{to}
-use Rattle.golog.specs.Sheets.{most-positions, no-number, number-bound, number-at, Row, row, surely-below, true-row, sound-row, has-row, fits, Accepts, Within, numbered-by, numbers-to, numbers, act-or-none, first-act, acts-for, acts, row-count, Made, made-from, make, tables-after}
-use Rattle.golog.specs.Sheets.Made.{made, no-sheet, oversize}
+use Rattle.golog.specs.Positions.{positions, first-position, may-stop}
+use Rattle.golog.specs.Sheets.{most-positions, no-number, number-bound, number-at, row, surely-below, true-row, sound-row, has-row, fits, Accepts, Within, numbered-by, numbers-to, numbers, act-or-none, first-act, acts, Made, made-from, tables-after}
+use Rattle.golog.specs.Sheets.Made.{oversize}
 use Rattle.golog.specs.Sureness.{MadeIsAccepted}
-use Rattle.golog.proofs.Searches.{any-from, lowest-none, lowest-some, getD-table, length-table}
+use Rattle.golog.proofs.Searches.{lowest-none, lowest-some, getD-table, length-table}
 use Rattle.golog.proofs.Passing.{first-in}
 use Rattle.golog.proofs.Numbers.{lead-in, usable-acts, surely-parts, surely-from, number-in, numbers-are-least}
-use Rattle.golog.proofs.Sure.{fits-few, make-fits, first-number, made-some, made-none}
+use Rattle.golog.proofs.Sure.{fits-few, first-number, made-some, made-none}
 
 numbers-to-length : (m : Meaning) (δ : Prog) (n : ℕ) → length (numbers-to m δ n) ≡ positions m δ
 numbers-to-length m δ zero = length-table (positions m δ) _

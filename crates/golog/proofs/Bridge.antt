@@ -1,16 +1,16 @@
 -- The points that come next are the steps of the remainder.
-use Prim.Native.Nat.{ℕ, zero, suc, _+_, _-_, _<_, _≤_}
+use Prim.Native.Nat.{ℕ, zero, suc, _+_, _-_, _<_}
 use mathlib.Core.Bool.{Bool, true, false, cond, _&&_, _||_, false≢true}
-use mathlib.Core.List.{List, [], _∷_, _++_}
+use mathlib.Core.List.{_++_}
 use mathlib.Core.Logic.{_⊎_, inl, inr}
 use mathlib.Core.Path.{_≡_, refl, sym, _∙_, ap, ap₂, subst}
 use native.Mathlib.Nat.{add-zero, zero-add, add-assoc}
 use native.Mathlib.Omega.{arith}
-use lib.Dec.{ltb, eqb}
+use lib.Dec.{ltb}
 use lib.ListN.{length, getD, length-append}
 use Rattle.std.proofs.shelf.Tests.{eqb-true, eq-eqb, lt-ltb, le-ltb, cases-lt, or-cases, and-parts, or-left, or-right, cond-true, cond-false}
 use Rattle.std.proofs.shelf.Lists.{getD-append-left, getD-append-add}
-use Rattle.golog.specs.Programs.{Valuation, Cond, Prog, nil, Final, Step}
+use Rattle.golog.specs.Programs.{Valuation, Prog, nil, Final, Step}
 use Rattle.golog.specs.Programs.Prog.{act, test, seq, alt, star}
 use Rattle.golog.specs.Programs.Step.{by-act, in-first, in-second, in-left, in-right, in-star}
 use Rattle.golog.specs.Points.{act-words, words, points, word, rem, numbered-from, numbered, takes, next, NextIsTrans}

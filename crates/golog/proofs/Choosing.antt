@@ -1,22 +1,21 @@
 -- Coming to stop surely, by positions, is having a way of choosing that ends.
-use Prim.Native.Nat.{ℕ, zero, suc, _+_, _*_, _/_, _%_, _<_, _≤_}
-use mathlib.Core.Bool.{Bool, true, false, cond, _&&_, _||_}
-use mathlib.Core.List.{List, [], _∷_, _++_, append-nil, append-assoc}
-use mathlib.Core.Logic.{_⊎_, inl, inr}
+use Prim.Native.Nat.{ℕ, zero, suc, _<_}
+use mathlib.Core.Bool.{Bool, true, false, _&&_}
+use mathlib.Core.List.{[], _∷_, _++_, append-nil, append-assoc}
+use mathlib.Core.Logic.{inl, inr}
 use mathlib.Core.Option.{Option, none, some}
 use mathlib.Core.Path.{_≡_, refl, sym, _∙_, ap, subst}
 use native.Mathlib.Nat.{div-eq-of-lt, mod-eq-of-lt}
-use native.Mathlib.Omega.{arith}
-use lib.Arith.{digits-div, digits-mod, digits-lt}
+use lib.Arith.{digits-div, digits-mod}
 use lib.Dec.{eqb}
-use Rattle.std.proofs.shelf.Tests.{cases-bool, cases-order, and-parts, and-from, or-cases, or-left, or-right, eqb-true, eq-eqb, both-ways}
+use Rattle.std.proofs.shelf.Tests.{cases-order, and-parts, and-from, or-left, or-right, eqb-true, eq-eqb, both-ways}
 use Rattle.locks.specs.Meaning.{Meaning, Lawful, Live, reactions, any-below}
 use Rattle.golog.specs.Search.{lowest}
-use Rattle.golog.specs.Programs.{Valuation, Prog, Final, Step, Trans}
-use Rattle.golog.specs.Points.{points, words, word, rem, next, goes-on, OneWay}
-use Rattle.golog.specs.Positions.{positions, position, point-of, state-of, first-position, facts-at, rem-at, may-stop, next-by, usable, Lead, lead-to, lead}
-use Rattle.golog.specs.Positions.Lead.{to, lost}
-use Rattle.golog.specs.Standings.{History, Choice, Way, StopsWell, Ends}
+use Rattle.golog.specs.Programs.{Valuation, Prog, Final, Step}
+use Rattle.golog.specs.Points.{points, word, rem, next, goes-on, OneWay}
+use Rattle.golog.specs.Positions.{position, point-of, state-of, first-position, facts-at, rem-at, next-by, usable, lead-to, lead}
+use Rattle.golog.specs.Positions.Lead.{to}
+use Rattle.golog.specs.Standings.{History, Choice, Way, Ends}
 use Rattle.golog.specs.Standings.Choice.{stop, go}
 use Rattle.golog.specs.Sheets.{Within}
 use Rattle.golog.specs.Sureness.{WithinIsEnding}
@@ -44,7 +43,7 @@ module _ (m : Meaning) (k s : ℕ) (h : s < m .states) where
   state-position = digits-mod k h
 
 -- a program that has a step, or may stop, goes on
-step-goes-on : (δ : Prog) (v : Valuation) (q a : ℕ) (δ′ : Prog) → Step v a (rem δ q) δ′ → goes-on δ v q ≡ true
+pub step-goes-on : (δ : Prog) (v : Valuation) (q a : ℕ) (δ′ : Prog) → Step v a (rem δ q) δ′ → goes-on δ v q ≡ true
 step-goes-on δ v q a δ′ s =
     let (k, n, _, _) = bridge δ v q a δ′ .0 s in
     or-right (Final (rem δ q) v) (any-below (points δ) (next δ v q)) (any-from (points δ) (next δ v q) k (next-in δ v q k n) n)
@@ -55,7 +54,7 @@ ends-goes-on m f (suc n) h δ q s (inl (_, x)) = or-left (Final (rem δ q) (m .h
 ends-goes-on m f (suc n) h δ q s (inr (a, _, (e, δ′, s′, (t, _, _)), _)) = step-goes-on δ (m .holds s) q a δ′ t
 
 -- a reaction leads where a next point of the act goes on
-lead-goes :
+pub lead-goes :
     (m : Meaning) (δ : Prog) (p a e q : ℕ) → next-by m δ p a q ≡ true → goes-on δ (m .holds (m .after (state-of m p) a e)) q ≡ true → q < points δ →
     (k : ℕ) × (lead m δ p a e ≡ to (position m k (m .after (state-of m p) a e))) × (next-by m δ p a k ≡ true)
     × (goes-on δ (m .holds (m .after (state-of m p) a e)) k ≡ true)

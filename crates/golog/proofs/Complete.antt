@@ -1,18 +1,13 @@
 -- Reading goes through every list of words that the grammar gives a tree.
 use Prim.Native.Nat.{ℕ}
 use native.Mathlib.Omega.{arith}
-use mathlib.Core.List.{List, [], _∷_, _++_, append-assoc}
+use mathlib.Core.List.{List, [], _∷_, _++_}
 use mathlib.Core.Option.{Option, none, some}
 use mathlib.Core.Path.{_≡_, refl, sym, _∙_, ap, subst}
-use Rattle.golog.specs.Programs.{Cond, Prog, nil, if-then-else, while-do}
-use Rattle.golog.specs.Programs.Cond.{always, never, fact, negated, both, any}
-use Rattle.golog.specs.Programs.Prog.{act, test, seq, alt, star}
+use Rattle.golog.specs.Programs.{Cond, Prog, if-then-else, while-do}
+use Rattle.golog.specs.Programs.Cond.{any}
+use Rattle.golog.specs.Programs.Prog.{test, alt}
 use Rattle.golog.specs.Words.{Word}
-use Rattle.golog.specs.Words.Word.{name, open-round, close-round, begins, behind, cond-begins, cond-behind}
-use Rattle.golog.specs.Words.Begin.{open-square, nil-word, if-word, while-word}
-use Rattle.golog.specs.Words.Behind.{asterisk, semicolon, bar, else-word, fi-word, od-word}
-use Rattle.golog.specs.Words.CondBegin.{true-word, false-word, not-word}
-use Rattle.golog.specs.Words.CondBehind.{and-word, or-word, close-square, then-word, do-word}
 use Rattle.golog.specs.Grammar.{Names, Sort, CondSort, Reads, CondReads}
 use Rattle.golog.specs.Grammar.Sort.{choice, sequence, item, atom}
 use Rattle.golog.specs.Grammar.CondSort.{disjunction, conjunction, literal}

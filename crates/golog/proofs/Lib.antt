@@ -11,3 +11,4 @@ mod OneWays
 mod Accepted
 mod PlainJob
 mod ReadBounds
+mod Leads

@@ -1,5 +1,5 @@
 -- Make's numbers are the least within which one can surely come to stop.
-use Prim.Native.Nat.{ℕ, zero, suc, _+_, _-_, _*_, _<_, _≤_}
+use Prim.Native.Nat.{ℕ, zero, suc, _+_, _-_, _<_, _≤_}
 use mathlib.Core.Bool.{Bool, true, false, cond, not, _&&_, _||_}
 use mathlib.Core.List.{List, [], _∷_}
 use mathlib.Core.Logic.{_⊎_, inl, inr}
@@ -9,14 +9,14 @@ use native.Mathlib.Omega.{arith}
 use lib.Arith.{digits-lt}
 use lib.Dec.{ltb, eqb}
 use lib.ListN.{length, getD}
-use Rattle.std.proofs.shelf.Tests.{cases-bool, cases-lt, cases-eq, and-parts, and-from, or-cases, or-left, or-right, not-from-false, not-true, eqb-true, eqb-false, eq-eqb, ne-eqb, ltb-true, lt-ltb, cond-true, cond-false, both-ways}
+use Rattle.std.proofs.shelf.Tests.{cases-bool, cases-lt, cases-eq, and-parts, and-from, or-cases, or-left, or-right, not-from-false, not-true, eq-eqb, ne-eqb, ltb-true, lt-ltb, cond-true, cond-false, both-ways}
 use Rattle.locks.specs.Meaning.{Meaning, Lawful, Live, reactions, any-below}
-use Rattle.golog.specs.Search.{all-below, lowest, table-from, table}
+use Rattle.golog.specs.Search.{all-below, lowest, table-from}
 use Rattle.golog.specs.Programs.{Prog}
 use Rattle.golog.specs.Points.{points, goes-on}
 use Rattle.golog.specs.Positions.{positions, position, state-of, may-stop, next-by, usable, Lead, lead-to, lead}
 use Rattle.golog.specs.Positions.Lead.{to, lost}
-use Rattle.golog.specs.Sheets.{no-number, most-positions, number-at, lead-below, surely-below, Within, numbered-by, numbers-to, numbers, row-count, NumbersAreLeast}
+use Rattle.golog.specs.Sheets.{no-number, most-positions, number-at, lead-below, surely-below, Within, numbered-by, numbers-to, row-count, NumbersAreLeast}
 use Rattle.golog.proofs.Searches.{any-found, any-from, all-found, all-from, lowest-some, getD-table, length-table, table-from-same}
 
 -- a reaction leads to a position

@@ -1,7 +1,7 @@
 -- The check over so many facts decides whether a program has one way.
 use Prim.Native.Nat.{ℕ, zero, suc, _+_, _-_, _*_, _/_, _%_, _^_, _<_, _≤_}
 use mathlib.Core.Bool.{Bool, true, false, cond, not, _&&_, _||_}
-use mathlib.Core.Logic.{_⊎_, inl, inr}
+use mathlib.Core.Logic.{inl, inr}
 use mathlib.Core.Option.{Option, none, some}
 use mathlib.Core.Path.{_≡_, refl, sym, _∙_, ap, ap₂, subst}
 use native.Mathlib.Nat.{pow-suc, pow-succ', div-one, div-add-mod', div-div-eq-div-mul}
@@ -9,16 +9,16 @@ use native.Mathlib.Omega.{arith}
 use lib.Arith.{digits-lt, digits-div, digits-mod}
 use lib.Dec.{ltb, eqb}
 use lib.ListN.{length-append}
-use Rattle.std.proofs.shelf.Tests.{cases-bool, cases-lt, cases-order, and-parts, and-from, and-left, or-cases, or-from, eqb-true, eq-eqb, ltb-true, lt-ltb, both-ways}
+use Rattle.std.proofs.shelf.Tests.{cases-lt, cases-order, and-parts, and-from, and-left, or-from, eqb-true, eq-eqb, ltb-true, lt-ltb, both-ways}
 use Rattle.locks.specs.Meaning.{any-below}
 use Rattle.golog.specs.Search.{lowest}
 use Rattle.golog.specs.Programs.{Valuation, Cond, Prog, eval, cond-names-below, names-below, Final}
 use Rattle.golog.specs.Programs.Cond.{always, never, fact, negated, both, any}
 use Rattle.golog.specs.Programs.Prog.{act, test, seq, alt, star}
-use Rattle.golog.specs.Points.{act-words, words, points, word, rem, numbered-from, numbered, takes, next, goes-on, valuation, Together, GoOnTogether, OneWay, together, go-on-together, two-ways-at, Ways, ways-of, ways, ways-place, WaysIsOneWay}
+use Rattle.golog.specs.Points.{act-words, words, points, word, rem, numbered-from, numbered, takes, next, goes-on, valuation, Together, GoOnTogether, together, go-on-together, two-ways-at, ways-of, ways-place, WaysIsOneWay}
 use Rattle.golog.specs.Points.Ways.{one-way, two-ways}
 use Rattle.golog.proofs.Bridge.{next-in, words-numbered, rem-in-second, rem-in-right}
-use Rattle.golog.proofs.Searches.{any-found, any-from, lowest-none, lowest-some}
+use Rattle.golog.proofs.Searches.{none-of, any-found, any-from, lowest-none, lowest-some}
 
 -- two valuations of so many facts that agree on them
 abbrev Agree : ℕ → Valuation → Valuation → Type 0
@@ -264,10 +264,6 @@ ways-some : (n : ℕ) (x : Option ℕ) (p q r : ℕ) → ways-of n x ≡ two-way
     (k : ℕ) × (x ≡ some k) × (k / (n * n) ≡ p) × ((k / n) % n ≡ q) × (k % n ≡ r)
 ways-some n none p q r e = let z : _≡_ {A = ℕ} 0 1 = cc in absurd (omega arith)
 ways-some n (some k) p q r e = (k, refl, cc, cc, cc)
-
-none-of : (x : Option ℕ) → ((k : ℕ) → x ≡ some k → ⊥) → x ≡ none
-none-of none h = refl
-none-of (some k) h = absurd (h k refl)
 
 pub ways-is-one-way : WaysIsOneWay
 unfolding triple

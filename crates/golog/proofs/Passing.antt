@@ -1,6 +1,6 @@
 -- Pass accepts exactly the sheets that are to be accepted.
-use Prim.Native.Nat.{ℕ, suc, _*_, _<_, _≤_}
-use mathlib.Core.Bool.{Bool, true, false, not, _&&_, _||_}
+use Prim.Native.Nat.{ℕ, _<_}
+use mathlib.Core.Bool.{Bool, true, false, not, _&&_}
 use mathlib.Core.List.{List}
 use mathlib.Core.Logic.{inl, inr}
 use mathlib.Core.Option.{Option, none, some}
@@ -17,7 +17,7 @@ use Rattle.golog.specs.Points.{words}
 use Rattle.golog.specs.Positions.{positions, first-position}
 use Rattle.golog.specs.Sheets.{Passed, row, sound-row, has-row, fits, Accepts, spoils-sheet, passed-by, pass, PassIsAccepts}
 use Rattle.golog.specs.Sheets.Passed.{accepted, too-large, false-row}
-use Rattle.golog.proofs.Searches.{lowest-none, lowest-some}
+use Rattle.golog.proofs.Searches.{none-of, lowest-none, lowest-some}
 
 -- the first position is one
 pub first-in : (m : Meaning) → Lawful m → (δ : Prog) → first-position m < positions m δ
@@ -64,10 +64,6 @@ too-large-by : (x : Option ℕ) (n : ℕ) → passed-by x ≡ too-large n → �
 too-large-by none n e = let z : _≡_ {A = ℕ} 0 1 = cc in omega arith
 too-large-by (some q) n e = let z : _≡_ {A = ℕ} 0 1 = cc in omega arith
 
-none-lowest : (x : Option ℕ) → ((p : ℕ) → x ≡ some p → ⊥) → x ≡ none
-none-lowest none h = refl
-none-lowest (some p) h = absurd (h p refl)
-
 pub pass-is-accepts : PassIsAccepts
 pass-is-accepts m law δ N A = go (fits m δ (length N) (length A)) refl
   where
@@ -89,7 +85,7 @@ pass-is-accepts m law δ N A = go (fits m δ (length N) (length A)) refl
           ),
       λ x.
           let l : lowest (positions m δ) t ≡ none =
-          none-lowest (lowest (positions m δ) t)
+          none-of (lowest (positions m δ) t)
           (λ p f.
           let (k, y, z) = lowest-some (positions m δ) t p f in
           both-ways (t p) (accepted-spoils-none m δ N A x p k) y) in

@@ -3,7 +3,7 @@ use Prim.Native.Nat.{ℕ, zero, suc, _+_, _<_, _≤_}
 use mathlib.Core.Bool.{Bool, true, false, cond, _&&_, _||_}
 use mathlib.Core.List.{List, [], _∷_, _++_, append-nil, append-assoc}
 use mathlib.Core.Logic.{_⊎_, inl, inr}
-use mathlib.Core.Option.{Option, none, some}
+use mathlib.Core.Option.{none, some}
 use mathlib.Core.Path.{_≡_, refl, sym, _∙_, ap, subst}
 use native.Mathlib.Nat.{zero-add}
 use native.Mathlib.Omega.{arith}
@@ -14,15 +14,15 @@ use Rattle.locks.specs.Meaning.{Meaning, Lawful, Live, reactions, any-below}
 use Rattle.golog.specs.Search.{lowest}
 use Rattle.golog.specs.Programs.{Prog, Step, Trans}
 use Rattle.golog.specs.Points.{no-act, points, rem, goes-on}
-use Rattle.golog.specs.Positions.{positions, position, point-of, state-of, first-position, facts-at, rem-at, may-stop, next-by, usable, Lead, lead}
-use Rattle.golog.specs.Positions.Lead.{to, lost}
+use Rattle.golog.specs.Positions.{positions, position, point-of, state-of, first-position, facts-at, rem-at, may-stop, next-by, lead}
+use Rattle.golog.specs.Positions.Lead.{to}
 use Rattle.golog.specs.Standings.{History, ReachesFrom, Reaches}
-use Rattle.golog.specs.Sheets.{no-number, number-bound, number-at, Row, row, surely-below, true-row, sound-row, has-row, Accepts}
-use Rattle.golog.specs.Jobs.{Phase, Plain, Call, Answer, standing-at, phase-at, plain-begin, possible-at, moves-to, plain-perform, plain-tell, plain-give-up, plain-call, plain-after, told-by, plain-told, Finished, Finishes}
+use Rattle.golog.specs.Sheets.{no-number, number-bound, number-at, surely-below, true-row, sound-row, has-row, Accepts}
+use Rattle.golog.specs.Jobs.{Phase, Plain, Call, Answer, standing-at, phase-at, plain-begin, possible-at, moves-to, plain-perform, plain-tell, plain-give-up, plain-call, plain-after, told-by, plain-told, Finishes}
 use Rattle.golog.specs.Jobs.Phase.{ready, waiting, finished, given-up}
 use Rattle.golog.specs.Jobs.Call.{perform, tell, ask, give-up}
 use Rattle.golog.specs.Jobs.JobFault.{impossible}
-use Rattle.golog.specs.Jobs.Answer.{taken, refused, seen}
+use Rattle.golog.specs.Jobs.Answer.{taken, refused}
 use Rattle.golog.specs.Sureness.{PlainFinishes, Tracks, PlainTracks}
 use Rattle.golog.proofs.Searches.{any-found, lowest-some}
 use Rattle.golog.proofs.Passing.{first-in}
@@ -38,7 +38,7 @@ reaches-more m δ s [] δ₁ s₁ a e δ₂ s₂ (x, y) t =
 reaches-more m δ s (c ∷ h) δ₁ s₁ a e δ₂ s₂ (δ₀, s₀, t₀, r) t = (δ₀, s₀, t₀, reaches-more m δ₀ s₀ h δ₁ s₁ a e δ₂ s₂ r t)
 
 -- where a possible reaction leads there is a Trans step
-lead-trans :
+pub lead-trans :
     (m : Meaning) → Lawful m → (δ : Prog) (p a e q : ℕ) → m .possible (state-of m p) a e ≡ true → lead m δ p a e ≡ to q →
     Trans m (rem-at m δ p) (state-of m p) a e (rem-at m δ q) (state-of m q)
 lead-trans m law δ p a e q x l =

@@ -1,15 +1,15 @@
 -- What the tree of a text that is read keeps to.
-use Prim.Native.Nat.{ℕ, zero, suc, _+_, _<_, _≤_}
+use Prim.Native.Nat.{ℕ, suc, _+_, _<_, _≤_}
 use mathlib.Core.Bool.{Bool, true, false, _&&_}
 use mathlib.Core.List.{List, [], _∷_}
 use mathlib.Core.Option.{Option, none, some}
-use mathlib.Core.Path.{_≡_, refl, sym, _∙_, ap, subst}
+use mathlib.Core.Path.{_≡_, refl, ap, subst}
 use native.Mathlib.Omega.{arith}
-use lib.Dec.{ltb, leb}
+use lib.Dec.{leb}
 use lib.ListN.{length, length-append}
-use Rattle.std.proofs.shelf.Tests.{cases-bool, and-parts, and-from, lt-ltb, leb-true}
-use Rattle.golog.specs.Programs.{Cond, Prog, nil, if-then-else, while-do, cond-names-below, names-below, acts-below}
-use Rattle.golog.specs.Programs.Prog.{act, test, seq, alt, star}
+use Rattle.std.proofs.shelf.Tests.{and-parts, and-from, lt-ltb, leb-true}
+use Rattle.golog.specs.Programs.{Cond, Prog, cond-names-below, names-below, acts-below}
+use Rattle.golog.specs.Programs.Prog.{seq, alt}
 use Rattle.golog.specs.Points.{act-words, words}
 use Rattle.golog.specs.Words.{Word, Token, same-word, tokens}
 use Rattle.golog.specs.Words.Word.{name, open-round, close-round, begins, behind, cond-begins, cond-behind, strange}
@@ -18,7 +18,7 @@ use Rattle.golog.specs.Words.Behind.{asterisk, semicolon, bar, else-word, fi-w
 use Rattle.golog.specs.Words.CondBegin.{true-word, false-word, not-word}
 use Rattle.golog.specs.Words.CondBehind.{and-word, or-word, close-square, then-word, do-word}
 use Rattle.golog.specs.Grammar.{Names, one-up, number-of, Sort, CondSort, Reads, CondReads}
-use Rattle.golog.specs.Reading.{Sofar, CondSofar, Frame, Base, Nest, State, Advance, TextFault, Reading, then-also, or-else, whole, operand, act-word, fact-word, close-choice, else-choice, fi-choice, od-choice, close-cond, square-cond, then-cond, do-cond, advance, depth, most-words, most-act-words, most-depth, in-limits, after-word, finish, read-on, start, ReadIsBounded}
+use Rattle.golog.specs.Reading.{Sofar, CondSofar, Frame, Base, Nest, State, Advance, Reading, then-also, or-else, whole, operand, act-word, fact-word, close-choice, else-choice, fi-choice, od-choice, close-cond, square-cond, then-cond, do-cond, advance, depth, most-words, most-act-words, most-depth, in-limits, after-word, finish, read-on, start, ReadIsBounded}
 use Rattle.golog.specs.Reading.Frame.{in-round, in-then, in-else, in-do}
 use Rattle.golog.specs.Reading.Base.{of-test, of-if, of-while}
 use Rattle.golog.specs.Reading.Nest.{bracket, negation}

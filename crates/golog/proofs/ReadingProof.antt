@@ -3,17 +3,17 @@ use Prim.Native.Nat.{ℕ, suc}
 use mathlib.Core.Bool.{Bool, true, false}
 use mathlib.Core.List.{List, [], _∷_}
 use mathlib.Core.Logic.{_⊎_, inl, inr}
-use mathlib.Core.Option.{Option, none, some}
-use mathlib.Core.Path.{_≡_, refl, sym, _∙_, ap, subst}
+use mathlib.Core.Option.{some}
+use mathlib.Core.Path.{_≡_, refl, sym, subst}
 use native.Mathlib.Omega.{arith}
 use lib.ListN.{length}
 use Rattle.golog.specs.Programs.{Prog}
-use Rattle.golog.specs.Words.{Word, Token, words-of, tokens}
+use Rattle.golog.specs.Words.{Token, words-of, tokens}
 use Rattle.golog.specs.Grammar.{Names, TextReads, OneTree}
-use Rattle.golog.specs.Reading.{Sofar, State, Advance, TextFault, Reading, whole, advance, in-limits, in-limit, after-word, finish, read-on, ReadingIsGrammar}
+use Rattle.golog.specs.Reading.{Sofar, State, Advance, TextFault, Reading, whole, advance, in-limits, after-word, finish, read-on, ReadingIsGrammar}
 use Rattle.golog.specs.Reading.State.{want, have, want-cond, have-cond}
 use Rattle.golog.specs.Reading.Advance.{goes, goes-by-act, misfit, unfamiliar}
-use Rattle.golog.specs.Reading.TextFault.{misplaced, unknown, over-limit}
+use Rattle.golog.specs.Reading.TextFault.{over-limit}
 use Rattle.golog.specs.Reading.Reading.{tree, refused}
 use Rattle.golog.proofs.Complete.{Runs, moved, same-state, none-some, prog-runs, one-tree}
 use Rattle.golog.proofs.Complete.Runs.{stay, move}

@@ -1,14 +1,14 @@
 -- What the searches over the numbers below a bound find.
 use Prim.Native.Nat.{ℕ, zero, suc, _+_, _<_, _≤_}
-use mathlib.Core.Bool.{Bool, true, false, cond, _&&_, _||_, false≢true}
-use mathlib.Core.List.{List, [], _∷_}
-use mathlib.Core.Logic.{_⊎_, inl, inr}
+use mathlib.Core.Bool.{Bool, true, false, false≢true}
+use mathlib.Core.List.{_∷_}
+use mathlib.Core.Logic.{inl, inr}
 use mathlib.Core.Option.{Option, none, some}
 use mathlib.Core.Path.{_≡_, refl, sym, _∙_, ap, ap₂, subst}
-use native.Mathlib.Nat.{add-zero, zero-add, add-suc, suc-add}
+use native.Mathlib.Nat.{add-zero, zero-add}
 use native.Mathlib.Omega.{arith}
 use lib.ListN.{length, getD}
-use Rattle.std.proofs.shelf.Tests.{cases-bool, cases-eq, or-cases, or-left, or-right, and-parts, and-from}
+use Rattle.std.proofs.shelf.Tests.{cases-eq, or-cases, or-left, or-right, and-parts, and-from}
 use Rattle.locks.specs.Meaning.{any-below}
 use Rattle.golog.specs.Search.{all-below, lowest-from, lowest, table-from, table}
 
@@ -61,6 +61,10 @@ choose-lowest k n t false e h = later-lowest k n t (lowest-from (suc k) n t) e h
 lowest-from-is : (k n : ℕ) (t : ℕ → Bool) → Lowest k n t (lowest-from k n t)
 lowest-from-is k zero t = λ j a b. absurd (omega arith)
 lowest-from-is k (suc n) t = choose-lowest k n t (t k) refl (lowest-from-is (suc k) n t)
+
+pub none-of : (x : Option ℕ) → ((k : ℕ) → x ≡ some k → ⊥) → x ≡ none
+none-of none h = refl
+none-of (some k) h = absurd (h k refl)
 
 pub lowest-none : (n : ℕ) (t : ℕ → Bool) → lowest n t ≡ none → (j : ℕ) → j < n → t j ≡ false
 lowest-none n t e j h = subst (Lowest 0 n t) e (lowest-from-is 0 n t) j (omega arith) (omega arith)

@@ -3,17 +3,16 @@ use Prim.Native.Nat.{ℕ}
 use mathlib.Core.List.{List, [], _∷_, _++_, append-assoc, append-nil}
 use mathlib.Core.Option.{Option, none, some}
 use mathlib.Core.Path.{_≡_, refl, sym, _∙_, ap, subst}
-use Rattle.golog.specs.Programs.{Cond, Prog, nil, if-then-else, while-do}
-use Rattle.golog.specs.Programs.Cond.{always, never, fact, negated, both, any}
-use Rattle.golog.specs.Programs.Prog.{act, test, seq, alt, star}
+use Rattle.golog.specs.Programs.{Cond, Prog}
+use Rattle.golog.specs.Programs.Cond.{always, never, fact, negated}
 use Rattle.golog.specs.Words.{Word}
 use Rattle.golog.specs.Words.Word.{name, open-round, close-round, begins, behind, cond-begins, cond-behind, strange}
 use Rattle.golog.specs.Words.Begin.{open-square, nil-word, if-word, while-word}
 use Rattle.golog.specs.Words.Behind.{asterisk, semicolon, bar, else-word, fi-word, od-word}
 use Rattle.golog.specs.Words.CondBegin.{true-word, false-word, not-word}
 use Rattle.golog.specs.Words.CondBehind.{and-word, or-word, close-square, then-word, do-word}
-use Rattle.golog.specs.Grammar.{Names, number-of, Sort, CondSort, Reads, CondReads}
-use Rattle.golog.specs.Grammar.Sort.{choice, sequence, item, atom}
+use Rattle.golog.specs.Grammar.{Names, number-of, Reads, CondReads}
+use Rattle.golog.specs.Grammar.Sort.{choice, sequence, item}
 use Rattle.golog.specs.Grammar.CondSort.{disjunction, conjunction, literal}
 use Rattle.golog.specs.Reading.{Sofar, CondSofar, Frame, Base, Nest, State, Advance, then-also, or-else, whole, and-also, or-also, whole-cond, operand, act-word, fact-word, close-choice, else-choice, fi-choice, od-choice, close-cond, square-cond, then-cond, do-cond, advance, start}
 use Rattle.golog.specs.Reading.Frame.{in-round, in-then, in-else, in-do}

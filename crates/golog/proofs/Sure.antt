@@ -1,20 +1,18 @@
 -- Make is sure: its answer, by ways of choosing.
 use Prim.Native.Nat.{ℕ, _<_, _≤_}
-use mathlib.Core.Bool.{Bool, true, false, cond, _&&_}
-use mathlib.Core.Logic.{_⊎_, inl, inr}
-use mathlib.Core.Path.{_≡_, refl, sym, _∙_, ap, subst}
+use mathlib.Core.Bool.{Bool, true, false, _&&_}
+use mathlib.Core.Logic.{inl, inr}
+use mathlib.Core.Path.{_≡_, sym, _∙_, ap, subst}
 use native.Mathlib.Omega.{arith}
 use lib.Dec.{leb, eqb}
 use lib.ListN.{getD}
 use Rattle.std.proofs.shelf.Tests.{and-parts, leb-true, eq-eqb, ne-eqb, cond-true, cond-false}
-use Rattle.locks.specs.Meaning.{Meaning, Lawful, Live}
+use Rattle.locks.specs.Meaning.{Meaning}
 use Rattle.golog.specs.Programs.{Prog}
-use Rattle.golog.specs.Points.{OneWay}
 use Rattle.golog.specs.Positions.{positions, first-position}
-use Rattle.golog.specs.Standings.{Way}
 use Rattle.golog.specs.Sheets.{most-positions, no-number, fits, Within, numbers, row-count, Made, made-from, make}
 use Rattle.golog.specs.Sheets.Made.{made, no-sheet, oversize}
-use Rattle.golog.specs.Sureness.{EndsWithin, MakeIsSure}
+use Rattle.golog.specs.Sureness.{MakeIsSure}
 use Rattle.golog.proofs.Passing.{first-in}
 use Rattle.golog.proofs.Numbers.{numbers-are-least}
 use Rattle.golog.proofs.Choosing.{within-is-ending}

@@ -1,6 +1,6 @@
 -- The points of a program, what remains at each, and which come next.
 use Prim.Native.Nat.{ℕ, zero, suc, _+_, _-_, _*_, _/_, _%_, _^_, _<_, _≤_}
-use mathlib.Core.Bool.{Bool, true, false, cond, not, _&&_, _||_}
+use mathlib.Core.Bool.{Bool, true, false, cond, _&&_, _||_}
 use mathlib.Core.List.{List, [], _∷_, _++_}
 use mathlib.Core.Option.{Option, none, some}
 use mathlib.Core.Path.{_≡_}
@@ -9,7 +9,7 @@ use lib.ListN.{length, getD}
 use Rattle.locks.specs.Meaning.{any-below}
 use Rattle.golog.specs.Search.{lowest}
 use Rattle.golog.specs.Faults.{Fault, routine-layer}
-use Rattle.golog.specs.Programs.{Valuation, Cond, Prog, nil, names-below, Final, Step}
+use Rattle.golog.specs.Programs.{Valuation, Prog, nil, names-below, Final, Step}
 use Rattle.golog.specs.Programs.Cond.{never}
 use Rattle.golog.specs.Programs.Prog.{act, test, seq, alt, star}
 
@@ -126,10 +126,13 @@ ways facts δ =
 abbrev pub ways-place : ℕ → ℕ → ℕ → ℕ
 ways-place p q r = p * 4096 + q * 64 + r
 
--- two ways are fault 11
+-- fault 11
+abbrev pub two-ways-fault : ℕ → ℕ → ℕ → Fault
+two-ways-fault p q r = record { number = 11; layer = routine-layer; place = ways-place p q r }
+
 abbrev pub ways-fault : Ways → Option Fault
 ways-fault one-way = none
-ways-fault (two-ways p q r) = some (record { number = 11; layer = routine-layer; place = ways-place p q r })
+ways-fault (two-ways p q r) = some (two-ways-fault p q r)
 
 -- The check over the valuations of so many facts finds one way exactly when there is one, of a program that names no other facts;
 -- and it finds two ways with the lowest place, of a program with at most 63 act words.

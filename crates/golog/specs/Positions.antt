@@ -1,12 +1,14 @@
 -- Positions: a point of the program with a state of the lock.
-use Prim.Native.Nat.{ℕ, _+_, _*_, _/_, _%_}
-use mathlib.Core.Bool.{Bool, _&&_}
+use Prim.Native.Nat.{ℕ, _+_, _*_, _/_, _%_, _<_}
+use mathlib.Core.Bool.{Bool, true, _&&_}
+use mathlib.Core.Logic.{_⊎_}
 use mathlib.Core.Option.{Option, none, some}
+use mathlib.Core.Path.{_≡_}
 use lib.Dec.{eqb}
-use Rattle.locks.specs.Meaning.{Meaning, any-below}
+use Rattle.locks.specs.Meaning.{Meaning, Lawful, any-below}
 use Rattle.golog.specs.Search.{lowest}
-use Rattle.golog.specs.Programs.{Valuation, Prog, Final}
-use Rattle.golog.specs.Points.{points, word, rem, next, goes-on}
+use Rattle.golog.specs.Programs.{Valuation, Prog, Final, Trans, Stuck}
+use Rattle.golog.specs.Points.{points, word, rem, next, goes-on, OneWay}
 
 -- how many positions there are
 abbrev pub positions : Meaning → Prog → ℕ
@@ -61,3 +63,12 @@ abbrev pub lead : Meaning → Prog → ℕ → ℕ → ℕ → Lead
 lead m δ p a e =
     let s = m .after (state-of m p) a e in
     lead-to m s (lowest (points δ) (λ k. next-by m δ p a k && goes-on δ (m .holds s) k))
+
+-- Where a possible reaction leads, Trans leads. A Trans step that it does not follow goes to a remainder that is stuck under the new valuation.
+abbrev pub LeadIsTrans : Type 0
+LeadIsTrans =
+    (m : Meaning) → Lawful m → (δ : Prog) → OneWay δ → (p a e : ℕ) → m .possible (state-of m p) a e ≡ true →
+    ((q : ℕ) → lead m δ p a e ≡ to q →
+    (q < positions m δ) × Trans m (rem-at m δ p) (state-of m p) a e (rem-at m δ q) (state-of m q) × (goes-on δ (facts-at m q) (point-of m q) ≡ true))
+    × ((δ′ : Prog) (s′ : ℕ) → Trans m (rem-at m δ p) (state-of m p) a e δ′ s′ →
+    ((q : ℕ) × (lead m δ p a e ≡ to q) × (rem-at m δ q ≡ δ′) × (state-of m q ≡ s′)) ⊎ Stuck δ′ (m .holds s′))

@@ -46,6 +46,32 @@ if-then-else c p q = alt (seq (test c) p) (seq (test (negated c)) q)
 abbrev pub while-do : Cond → Prog → Prog
 while-do c p = seq (star (seq (test c) p)) (test (negated c))
 
+-- Final: the program may stop under the valuation.
+abbrev pub Final : Prog → Valuation → Bool
+Final (act a) v = false
+Final (test c) v = eval c v
+Final (seq p q) v = Final p v && Final q v
+Final (alt p q) v = Final p v || Final q v
+Final (star p) v = true
+
+-- Step v a δ δ′: under the valuation v the program δ may do the act a, and δ′ remains.
+-- A test is no step. Whether the act is allowed is left to the lock.
+pub data Step (v : Valuation) (a : ℕ) : Prog → Prog → Type 0 where
+  by-act : Step v a (act a) nil
+  in-first : {p p′ q : Prog} → Step v a p p′ → Step v a (seq p q) (seq p′ q)
+  in-second : {p q q′ : Prog} → Final p v ≡ true → Step v a q q′ → Step v a (seq p q) q′
+  in-left : {p p′ q : Prog} → Step v a p p′ → Step v a (alt p q) p′
+  in-right : {p q q′ : Prog} → Step v a q q′ → Step v a (alt p q) q′
+  in-star : {p p′ : Prog} → Step v a p p′ → Step v a (star p) (seq p′ (star p))
+
+-- Trans: from the program δ in the state s, the act a with the reaction e leads to δ′ in the state s′.
+abbrev pub Trans : Meaning → Prog → ℕ → ℕ → ℕ → Prog → ℕ → Type 0
+Trans m δ s a e δ′ s′ = Step (m .holds s) a δ δ′ × (m .possible s a e ≡ true) × (s′ ≡ m .after s a e)
+
+-- A program is stuck under a valuation if it can neither stop nor take a step.
+abbrev pub Stuck : Prog → Valuation → Type 0
+Stuck δ v = (Final δ v ≡ false) × ((a : ℕ) (δ′ : Prog) → Step v a δ δ′ → ⊥)
+
 -- whether a condition, and a program, names no fact but those below a number
 abbrev pub cond-names-below : ℕ → Cond → Bool
 cond-names-below n always = true
@@ -69,25 +95,3 @@ acts-below n (test c) = true
 acts-below n (seq p q) = acts-below n p && acts-below n q
 acts-below n (alt p q) = acts-below n p && acts-below n q
 acts-below n (star p) = acts-below n p
-
--- Final: the program may stop under the valuation.
-abbrev pub Final : Prog → Valuation → Bool
-Final (act a) v = false
-Final (test c) v = eval c v
-Final (seq p q) v = Final p v && Final q v
-Final (alt p q) v = Final p v || Final q v
-Final (star p) v = true
-
--- Step v a δ δ′: under the valuation v the program δ may do the act a, and δ′ remains.
--- A test is no step. Whether the act is allowed is left to the lock.
-pub data Step (v : Valuation) (a : ℕ) : Prog → Prog → Type 0 where
-  by-act : Step v a (act a) nil
-  in-first : {p p′ q : Prog} → Step v a p p′ → Step v a (seq p q) (seq p′ q)
-  in-second : {p q q′ : Prog} → Final p v ≡ true → Step v a q q′ → Step v a (seq p q) q′
-  in-left : {p p′ q : Prog} → Step v a p p′ → Step v a (alt p q) p′
-  in-right : {p q q′ : Prog} → Step v a q q′ → Step v a (alt p q) q′
-  in-star : {p p′ : Prog} → Step v a p p′ → Step v a (star p) (seq p′ (star p))
-
--- Trans: from the program δ in the state s, the act a with the reaction e leads to δ′ in the state s′.
-abbrev pub Trans : Meaning → Prog → ℕ → ℕ → ℕ → Prog → ℕ → Type 0
-Trans m δ s a e δ′ s′ = Step (m .holds s) a δ δ′ × (m .possible s a e ≡ true) × (s′ ≡ m .after s a e)

@@ -110,11 +110,20 @@ PassIsAccepts =
     × ((p : ℕ) → pass m δ N A ≡ false-row p →
     (p < positions m δ) × (spoils-sheet m δ N A p ≡ true) × ((q : ℕ) → q < p → spoils-sheet m δ N A q ≡ false))
 
--- too large is fault 12, a false row fault 14
+-- faults 12, 13 and 14
+abbrev pub size-fault : ℕ → Fault
+size-fault n = record { number = 12; layer = positions-layer; place = n }
+
+abbrev pub no-sheet-fault : ℕ → Fault
+no-sheet-fault p = record { number = 13; layer = positions-layer; place = p }
+
+abbrev pub false-row-fault : ℕ → Fault
+false-row-fault p = record { number = 14; layer = sheet-layer; place = p }
+
 abbrev pub pass-fault : Passed → Option Fault
 pass-fault accepted = none
-pass-fault (too-large n) = some (record { number = 12; layer = positions-layer; place = n })
-pass-fault (false-row p) = some (record { number = 14; layer = sheet-layer; place = p })
+pass-fault (too-large n) = some (size-fault n)
+pass-fault (false-row p) = some (false-row-fault p)
 
 -- Within m δ n p: from the position p one can surely come to stop in at most n steps.
 abbrev pub Within : Meaning → Prog → ℕ → ℕ → Type 0
@@ -201,8 +210,7 @@ tables-after m δ N A =
       | false ↦ (N, A)
     ]
 
--- oversize is fault 12, no sure sheet fault 13
 abbrev pub make-fault : Made → Option Fault
 make-fault (made n r) = none
-make-fault (no-sheet p) = some (record { number = 13; layer = positions-layer; place = p })
-make-fault (oversize n) = some (record { number = 12; layer = positions-layer; place = n })
+make-fault (no-sheet p) = some (no-sheet-fault p)
+make-fault (oversize n) = some (size-fault n)

@@ -1,8 +1,8 @@
 -- A small lock to try the definitions on.
 -- Facts wound (0) and shut (1), acts wind (0) and close (1). No act is allowed once the lock is shut.
 -- Wind 0 sets wound, wind 1 sets nothing, close 0 sets shut.
-use Prim.Native.Nat.{ℕ, zero, suc, _+_, _-_, _*_, _/_, _%_}
-use mathlib.Core.Bool.{Bool, true, false, cond, not, _&&_, _||_}
+use Prim.Native.Nat.{ℕ, suc, _+_, _-_, _*_, _/_, _%_}
+use mathlib.Core.Bool.{Bool, cond, not, _&&_, _||_}
 use lib.Dec.{ltb, eqb}
 use Rattle.locks.specs.Meaning.{Meaning, reactions, any-below}
 use Rattle.golog.specs.Points.{valuation}

@@ -1,4 +1,4 @@
--- Make's answer, in terms of ways of choosing.
+-- What make's answer says of ways of choosing, and what a sheet that is accepted says of the plain job on it.
 use Prim.Native.Nat.{ℕ, _+_, _<_, _≤_}
 use mathlib.Core.Bool.{true}
 use mathlib.Core.List.{List, []}
@@ -9,9 +9,9 @@ use Rattle.golog.specs.Programs.{Prog}
 use Rattle.golog.specs.Points.{OneWay}
 use Rattle.golog.specs.Positions.{state-of, first-position, rem-at, may-stop}
 use Rattle.golog.specs.Standings.{Way, Reaches, Ends}
-use Rattle.golog.specs.Sheets.{number-at, fits, Accepts, Within, Made, make, tables-after}
+use Rattle.golog.specs.Sheets.{number-at, fits, Accepts, Within, make, tables-after}
 use Rattle.golog.specs.Sheets.Made.{made, no-sheet}
-use Rattle.golog.specs.Jobs.{Phase, Call, plain-begin, plain-after, plain-told, Finishes}
+use Rattle.golog.specs.Jobs.{Call, plain-begin, plain-after, plain-told, Finishes}
 use Rattle.golog.specs.Jobs.Phase.{finished}
 
 -- The way ends the routine within n, from the beginning.

@@ -1,14 +1,22 @@
 // The meaning of routines, sheets and jobs, and the theorems that say that it fits together.
 ghost use Rattle.golog.specs.Points.{NextIsTrans, WaysIsOneWay};
+ghost use Rattle.golog.specs.Positions.{LeadIsTrans};
 ghost use Rattle.golog.specs.Grammar.{OneTree};
 ghost use Rattle.golog.specs.Reading.{ReadingIsGrammar, ReadIsBounded};
 ghost use Rattle.golog.specs.Sheets.{PassIsAccepts, NumbersAreLeast};
 ghost use Rattle.golog.specs.Sureness.{WithinIsEnding, MakeIsSure, MadeIsAccepted, PlainFinishes, PlainTracks};
-ghost use Rattle.golog.specs.Cases.{CasesComeOut};
+ghost use Rattle.golog.specs.Cases.{CasesComeOut, TextsComeOut};
 
 // Trans, on the trees that remain, is coming next, on points.
 pub fn bridge_stands() -> u8
     ensures { λ _. ⌜ NextIsTrans ⌝ }
+{
+    0
+}
+
+// Where a possible reaction leads, Trans leads; only steps into stuck remainders are dropped.
+pub fn leads_stand() -> u8
+    ensures { λ _. ⌜ LeadIsTrans ⌝ }
 {
     0
 }
@@ -93,6 +101,13 @@ pub fn plain_job_tracks() -> u8
 // The definitions, computed on routines for a small lock, give what a reader finds by hand.
 pub fn cases_come_out() -> u8
     ensures { λ _. ⌜ CasesComeOut ⌝ }
+{
+    0
+}
+
+// Reading, computed on short texts.
+pub fn texts_come_out() -> u8
+    ensures { λ _. ⌜ TextsComeOut ⌝ }
 {
     0
 }
