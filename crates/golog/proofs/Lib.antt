@@ -1,0 +1,14 @@
+mod Bridge
+mod Complete
+mod Sound
+mod ReadingProof
+mod Searches
+mod Passing
+mod Numbers
+mod Choosing
+mod Sure
+mod OneWays
+mod Accepted
+mod PlainJob
+mod ReadBounds
+mod Leads

@@ -1,0 +1,5 @@
+use Rattle.golog.proofs.ReadBounds.{read-is-bounded}
+use Rattle.golog.proofs.read_bounds_stand.Needs as need
+
+pub returns : need.returns
+returns c = read-is-bounded

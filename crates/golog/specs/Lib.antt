@@ -1,0 +1,14 @@
+pub mod Search
+pub mod Faults
+pub mod Programs
+pub mod Points
+pub mod Positions
+pub mod Standings
+pub mod Sheets
+pub mod Sureness
+pub mod Jobs
+pub mod Words
+pub mod Grammar
+pub mod Reading
+pub mod SmallLock
+pub mod Cases
