@@ -1,0 +1,3 @@
+// Conditions and programs in tables: each part stands below the whole.
+pub mod node;
+pub mod tree;
