@@ -12,3 +12,4 @@ mod Accepted
 mod PlainJob
 mod ReadBounds
 mod Leads
+mod Refusals

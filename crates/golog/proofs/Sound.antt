@@ -24,30 +24,30 @@ use Rattle.golog.proofs.Complete.{Runs, moved, Settled, same-state, none-some}
 use Rattle.golog.proofs.Complete.Runs.{stay, move}
 
 -- the words of what was read before the item at hand
-abbrev BeforeBar : Names → Option Prog → List Word → Type 0
+abbrev pub BeforeBar : Names → Option Prog → List Word → Type 0
 BeforeBar N none vs = vs ≡ []
 BeforeBar N (some a) vs = (ws : List Word) × Reads N choice ws a × (vs ≡ ws ++ behind bar ∷ [])
 
-abbrev BeforeSemicolon : Names → Option Prog → List Word → Type 0
+abbrev pub BeforeSemicolon : Names → Option Prog → List Word → Type 0
 BeforeSemicolon N none vs = vs ≡ []
 BeforeSemicolon N (some s) vs = (ws : List Word) × Reads N sequence ws s × (vs ≡ ws ++ behind semicolon ∷ [])
 
-abbrev Before : Names → Sofar → List Word → Type 0
+abbrev pub Before : Names → Sofar → List Word → Type 0
 Before N A vs = (ms : List Word) × (ns : List Word) × BeforeBar N (A .0) ms × BeforeSemicolon N (A .1) ns × (vs ≡ ms ++ ns)
 
-abbrev BeforeOr : Names → Option Cond → List Word → Type 0
+abbrev pub BeforeOr : Names → Option Cond → List Word → Type 0
 BeforeOr N none vs = vs ≡ []
 BeforeOr N (some a) vs = (ws : List Word) × CondReads N disjunction ws a × (vs ≡ ws ++ cond-behind or-word ∷ [])
 
-abbrev BeforeAnd : Names → Option Cond → List Word → Type 0
+abbrev pub BeforeAnd : Names → Option Cond → List Word → Type 0
 BeforeAnd N none vs = vs ≡ []
 BeforeAnd N (some s) vs = (ws : List Word) × CondReads N conjunction ws s × (vs ≡ ws ++ cond-behind and-word ∷ [])
 
-abbrev BeforeCond : Names → CondSofar → List Word → Type 0
+abbrev pub BeforeCond : Names → CondSofar → List Word → Type 0
 BeforeCond N O vs = (ms : List Word) × (ns : List Word) × BeforeOr N (O .0) ms × BeforeAnd N (O .1) ns × (vs ≡ ms ++ ns)
 
 -- the words up to and with those that opened the parts
-abbrev Opened : Names → List Frame → List Word → Type 0
+abbrev pub Opened : Names → List Frame → List Word → Type 0
 Opened N [] us = us ≡ []
 Opened N (in-round A ∷ K) us =
     (xs : List Word) × (vs : List Word) × Opened N K xs × Before N A vs × (us ≡ xs ++ (vs ++ open-round ∷ []))
@@ -62,18 +62,18 @@ Opened N (in-do A c ∷ K) us =
     (xs : List Word) × (vs : List Word) × Opened N K xs × Before N A vs
     × ((cs : List Word) × CondReads N disjunction cs c × (us ≡ xs ++ (vs ++ begins while-word ∷ (cs ++ cond-behind do-word ∷ []))))
 
-abbrev base-word : Base → Word
+abbrev pub base-word : Base → Word
 base-word of-test = begins open-square
 base-word of-if = begins if-word
 base-word of-while = begins while-word
 
 -- behind a not nothing was read yet
-abbrev Fresh : List Nest → List Word → Type 0
+abbrev pub Fresh : List Nest → List Word → Type 0
 Fresh [] vs = Unit {0}
 Fresh (bracket O ∷ L) vs = Unit {0}
 Fresh (negation O ∷ L) vs = vs ≡ []
 
-abbrev OpenedCond : Names → List Frame → Sofar → Base → List Nest → List Word → Type 0
+abbrev pub OpenedCond : Names → List Frame → Sofar → Base → List Nest → List Word → Type 0
 OpenedCond N K A B [] us = (xs : List Word) × (vs : List Word) × Opened N K xs × Before N A vs × (us ≡ xs ++ (vs ++ base-word B ∷ []))
 OpenedCond N K A B (bracket O ∷ L) us =
     (xs : List Word) × (vs : List Word) × OpenedCond N K A B L xs × BeforeCond N O vs × (Fresh L vs × (us ≡ xs ++ (vs ++ open-round ∷ [])))
@@ -81,7 +81,7 @@ OpenedCond N K A B (negation O ∷ L) us =
     (xs : List Word) × (vs : List Word) × OpenedCond N K A B L xs × BeforeCond N O vs × (Fresh L vs × (us ≡ xs ++ (vs ++ cond-begins not-word ∷ [])))
 
 -- these words lead to the state
-abbrev Holds : Names → State → List Word → Type 0
+abbrev pub Holds : Names → State → List Word → Type 0
 Holds N (want K A) ws = (us : List Word) × (vs : List Word) × Opened N K us × Before N A vs × (ws ≡ us ++ vs)
 Holds N (have K A p) ws =
     (us : List Word) × (vs : List Word) × Opened N K us × Before N A vs × ((xs : List Word) × Reads N item xs p × (ws ≡ us ++ (vs ++ xs)))
@@ -132,7 +132,7 @@ settled-fresh [] vs x = tt
 settled-fresh (bracket O ∷ L) vs x = tt
 settled-fresh (negation O ∷ L) vs x = absurd x
 
-none-before : (N : Names) → Before N (none, none) []
+pub none-before : (N : Names) → Before N (none, none) []
 none-before N = ([], [], refl, refl, refl)
 
 none-before-cond : (N : Names) → BeforeCond N (none, none) []
@@ -336,7 +336,7 @@ after-holds N (goes-by-act s) r ws h e = subst (λ x. Holds N x ws) (same-state 
 after-holds N misfit r ws h e = absurd (none-some e)
 after-holds N unfamiliar r ws h e = absurd (none-some e)
 
-runs-hold : (N : Names) (s r : State) (ws us : List Word) → Holds N s ws → Runs N s us r → Holds N r (ws ++ us)
+pub runs-hold : (N : Names) (s r : State) (ws us : List Word) → Holds N s ws → Runs N s us r → Holds N r (ws ++ us)
 runs-hold N s _ ws _ h stay = subst (Holds N s) (sym (append-nil ws)) h
 runs-hold N s r ws _ h (move {r = q} {w = w} {ws = us} e x) =
     subst (Holds N r) (append-assoc ws (w ∷ []) us) (runs-hold N q r (ws ++ w ∷ []) us (after-holds N (advance N s w) q (ws ++ w ∷ []) (word-holds N s w ws h) e) x)

@@ -1,7 +1,7 @@
 -- Reading a routine's text word by word, front to back, with the fault of the first word that has one.
 use Prim.Native.Nat.{ℕ, suc, _+_, _≤_}
 use mathlib.Core.Bool.{Bool, true, false, _&&_}
-use mathlib.Core.List.{List, [], _∷_}
+use mathlib.Core.List.{List, [], _∷_, _++_}
 use mathlib.Core.Logic.{_⊎_}
 use mathlib.Core.Option.{Option, none, some}
 use mathlib.Core.Path.{_≡_}
@@ -12,13 +12,14 @@ use Rattle.golog.specs.Programs.{Cond, Prog, nil, if-then-else, while-do, name
 use Rattle.golog.specs.Programs.Cond.{always, never, fact, negated, both, any}
 use Rattle.golog.specs.Programs.Prog.{act, test, seq, alt, star}
 use Rattle.golog.specs.Points.{words}
-use Rattle.golog.specs.Words.{Word, Begin, Behind, CondBegin, CondBehind, Token, tokens}
+use Rattle.golog.specs.Words.{Word, Begin, Behind, CondBegin, CondBehind, Token, token, tokens, words-of, text-words}
 use Rattle.golog.specs.Words.Word.{name, open-round, close-round, begins, behind, cond-begins, cond-behind, strange}
 use Rattle.golog.specs.Words.Begin.{open-square, nil-word, if-word, while-word}
 use Rattle.golog.specs.Words.Behind.{asterisk, semicolon, bar, else-word, fi-word, od-word}
 use Rattle.golog.specs.Words.CondBegin.{true-word, false-word, not-word}
 use Rattle.golog.specs.Words.CondBehind.{and-word, or-word, close-square, then-word, do-word}
-use Rattle.golog.specs.Grammar.{Names, number-of, TextReads}
+use Rattle.golog.specs.Grammar.{Names, number-of, Reads, TextReads}
+use Rattle.golog.specs.Grammar.Sort.{choice}
 
 -- What was read of a choice before the item at hand: the sequences before the last |, and the items of this sequence before the last ;.
 abbrev pub Sofar : Type 0
@@ -291,6 +292,34 @@ ReadingIsGrammar =
     (N : Names) (text : List ℕ) (t : Prog) →
     (read N text ≡ tree t → TextReads N text t)
     × (TextReads N text t → (read N text ≡ tree t) ⊎ ((o : ℕ) × (read N text ≡ refused (over-limit o))))
+
+-- some routine begins with these words
+abbrev pub Begins : Names → List Word → Type 0
+Begins N ws = (vs : List Word) × (t : Prog) × Reads N choice (ws ++ vs) t
+
+-- no routine begins with these words
+abbrev pub BeginsNone : Names → List Word → Type 0
+BeginsNone N ws = (vs : List Word) (t : Prog) → Reads N choice (ws ++ vs) t → ⊥
+
+-- the word of a text at an offset, behind the words ws
+abbrev pub WordAt : List ℕ → ℕ → List Word → Word → Type 0
+WordAt text o ws w =
+    (ts : List Token) × (us : List Token) × (tokens text ≡ ts ++ token o w ∷ us) × (words-of ts ≡ ws)
+
+-- A misplaced word is the first with which no routine goes on; at the end of the text, words are missing.
+abbrev pub MisplacedIsFirst : Type 0
+MisplacedIsFirst =
+    (N : Names) (text : List ℕ) (o : ℕ) → read N text ≡ refused (misplaced o) →
+    ((o ≡ length text) × Begins N (text-words text) × ((t : Prog) → TextReads N text t → ⊥))
+    ⊎ ((ws : List Word) × (w : Word) × WordAt text o ws w × Begins N ws × BeginsNone N (ws ++ w ∷ []))
+
+-- An unknown name is the first with which no routine goes on, though one would with a listed name in its place: of an act, or of a fact.
+abbrev pub UnknownIsFirst : Type 0
+UnknownIsFirst =
+    (N : Names) (text : List ℕ) (o : ℕ) → read N text ≡ refused (unknown o) →
+    (ws : List Word) × (w : List ℕ) × WordAt text o ws (name w) × Begins N ws × BeginsNone N (ws ++ name w ∷ [])
+    × (((number-of (N .acts) w ≡ none) × ((u : List ℕ) (a : ℕ) → number-of (N .acts) u ≡ some a → Begins N (ws ++ name u ∷ [])))
+    ⊎ ((number-of (N .facts) w ≡ none) × ((u : List ℕ) (i : ℕ) → number-of (N .facts) u ≡ some i → Begins N (ws ++ name u ∷ []))))
 
 -- The tree of a text that is read has only facts and acts that are listed, and at most 63 act words.
 abbrev pub ReadIsBounded : Type 0

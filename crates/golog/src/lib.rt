@@ -2,7 +2,7 @@
 ghost use Rattle.golog.specs.Points.{NextIsTrans, WaysIsOneWay};
 ghost use Rattle.golog.specs.Positions.{LeadIsTrans};
 ghost use Rattle.golog.specs.Grammar.{OneTree};
-ghost use Rattle.golog.specs.Reading.{ReadingIsGrammar, ReadIsBounded};
+ghost use Rattle.golog.specs.Reading.{ReadingIsGrammar, MisplacedIsFirst, UnknownIsFirst, ReadIsBounded};
 ghost use Rattle.golog.specs.Sheets.{PassIsAccepts, NumbersAreLeast};
 ghost use Rattle.golog.specs.Sureness.{WithinIsEnding, MakeIsSure, MadeIsAccepted, PlainFinishes, PlainTracks};
 ghost use Rattle.golog.specs.Cases.{CasesComeOut, TextsComeOut};
@@ -17,13 +17,6 @@ pub fn bridge_stands() -> u8
 // Where a possible reaction leads, Trans leads; only steps into stuck remainders are dropped.
 pub fn leads_stand() -> u8
     ensures { λ _. ⌜ LeadIsTrans ⌝ }
-{
-    0
-}
-
-// A text that is read names known facts and acts alone, and has at most 63 act words.
-pub fn read_bounds_stand() -> u8
-    ensures { λ _. ⌜ ReadIsBounded ⌝ }
 {
     0
 }
@@ -45,6 +38,27 @@ pub fn one_tree_stands() -> u8
 // Reading a text finds the tree that the grammar gives it; only a limit can come between.
 pub fn reading_stands() -> u8
     ensures { λ _. ⌜ ReadingIsGrammar ⌝ }
+{
+    0
+}
+
+// A misplaced word is the first with which no routine goes on.
+pub fn misplaced_stands() -> u8
+    ensures { λ _. ⌜ MisplacedIsFirst ⌝ }
+{
+    0
+}
+
+// An unknown name is the first with which no routine goes on, though one would with a listed name.
+pub fn unknown_stands() -> u8
+    ensures { λ _. ⌜ UnknownIsFirst ⌝ }
+{
+    0
+}
+
+// A text that is read names known facts and acts alone, and has at most 63 act words.
+pub fn read_bounds_stand() -> u8
+    ensures { λ _. ⌜ ReadIsBounded ⌝ }
 {
     0
 }
