@@ -11,7 +11,8 @@ use Rattle.std.proofs.shelf.Tests.{and-parts, and-from, lt-ltb, leb-true}
 use Rattle.golog.specs.Programs.{Cond, Prog, cond-names-below, names-below, acts-below}
 use Rattle.golog.specs.Programs.Prog.{seq, alt}
 use Rattle.golog.specs.Points.{act-words, words}
-use Rattle.golog.specs.Words.{Word, Token, same-word, tokens}
+use Rattle.words.specs.Names.{same-word}
+use Rattle.golog.specs.Words.{Word, Token, tokens}
 use Rattle.golog.specs.Words.Word.{name, open-round, close-round, begins, behind, cond-begins, cond-behind, strange}
 use Rattle.golog.specs.Words.Begin.{open-square, nil-word, if-word, while-word}
 use Rattle.golog.specs.Words.Behind.{asterisk, semicolon, bar, else-word, fi-word, od-word}

@@ -7,7 +7,8 @@ use mathlib.Core.Path.{_≡_}
 use Rattle.golog.specs.Programs.{Cond, Prog, nil, if-then-else, while-do}
 use Rattle.golog.specs.Programs.Cond.{always, never, fact, negated, both, any}
 use Rattle.golog.specs.Programs.Prog.{act, test, seq, alt, star}
-use Rattle.golog.specs.Words.{Word, same-word, text-words}
+use Rattle.words.specs.Names.{same-word}
+use Rattle.golog.specs.Words.{Word, text-words}
 use Rattle.golog.specs.Words.Word.{name, open-round, close-round, begins, behind, cond-begins, cond-behind}
 use Rattle.golog.specs.Words.Begin.{open-square, nil-word, if-word, while-word}
 use Rattle.golog.specs.Words.Behind.{asterisk, semicolon, bar, else-word, fi-word, od-word}

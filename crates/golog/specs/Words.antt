@@ -6,6 +6,7 @@ use mathlib.Core.Option.{Option, none, some}
 use lib.Chars.{codes}
 use lib.Dec.{leb, eqb}
 use lib.ListN.{length}
+use Rattle.words.specs.Names.{same-word, reserved-words, is-letter, is-name-byte, most-letters}
 
 -- Words by where they may stand. These begin an atom: [ nil if while
 pub data Begin : Type 0 where
@@ -39,35 +40,35 @@ pub record Token : Type 0 where
   pub offset : ℕ
   pub word : Word
 
--- Two words are the same if they have the same bytes.
-abbrev pub same-word : List ℕ → List ℕ → Bool
-same-word [] [] = true
-same-word [] (c ∷ cs) = false
-same-word (b ∷ bs) [] = false
-same-word (b ∷ bs) (c ∷ cs) = eqb b c && same-word bs cs
-
 -- the entry of a list that stands beside the word
 abbrev pub beside : List (List ℕ × Word) → List ℕ → Option Word
 beside [] w = none
 beside (x ∷ xs) w = elim (same-word (x .0) w) [ true ↦ some (x .1) | false ↦ beside xs w ]
 
--- the reserved words
-abbrev pub reserved-words : List (List ℕ × Word)
-reserved-words =
-    (codes "if", begins if-word)
-    ∷ (codes "then", cond-behind then-word)
-    ∷ (codes "else", behind else-word)
-    ∷ (codes "fi", behind fi-word)
-    ∷ (codes "while", begins while-word)
-    ∷ (codes "do", cond-behind do-word)
-    ∷ (codes "od", behind od-word)
-    ∷ (codes "nil", begins nil-word)
-    ∷ (codes "and", cond-behind and-word)
-    ∷ (codes "or", cond-behind or-word)
-    ∷ (codes "not", cond-begins not-word)
-    ∷ (codes "true", cond-begins true-word)
-    ∷ (codes "false", cond-begins false-word)
-    ∷ []
+-- words beside what they are
+abbrev pub paired : List (List ℕ) → List Word → List (List ℕ × Word)
+paired [] ws = []
+paired (n ∷ ns) [] = []
+paired (n ∷ ns) (w ∷ ws) = (n, w) ∷ paired ns ws
+
+-- what each reserved word is
+abbrev pub reserved : List (List ℕ × Word)
+reserved =
+    paired reserved-words
+    (begins if-word
+    ∷ cond-behind then-word
+    ∷ behind else-word
+    ∷ behind fi-word
+    ∷ begins while-word
+    ∷ cond-behind do-word
+    ∷ behind od-word
+    ∷ begins nil-word
+    ∷ cond-behind and-word
+    ∷ cond-behind or-word
+    ∷ cond-begins not-word
+    ∷ cond-begins true-word
+    ∷ cond-begins false-word
+    ∷ [])
 
 -- the signs
 abbrev pub signs : List (List ℕ × Word)
@@ -81,29 +82,14 @@ signs =
     ∷ (codes "*", behind asterisk)
     ∷ []
 
-abbrev between : ℕ → ℕ → ℕ → Bool
-between a z b = leb a b && leb b z
-
--- an ASCII letter
-abbrev pub letter : ℕ → Bool
-letter b = between 65 90 b || between 97 122 b
-
--- a letter, a digit or an underscore
-abbrev pub name-byte : ℕ → Bool
-name-byte b = letter b || (between 48 57 b || eqb b 95)
-
 -- space, tab, CR and LF
 abbrev pub blank : ℕ → Bool
 blank b = eqb b 32 || (eqb b 9 || (eqb b 13 || eqb b 10))
 
--- the longest name
-abbrev pub most-name : ℕ
-most-name = 24
-
 -- A name begins with a letter and has at most 24 bytes.
 abbrev pub name-shaped : List ℕ → Bool
 name-shaped [] = false
-name-shaped (b ∷ bs) = letter b && leb (suc (length bs)) most-name
+name-shaped (b ∷ bs) = is-letter b && leb (suc (length bs)) most-letters
 
 -- A run of letters, digits and underscores is a reserved word, a name, or strange.
 abbrev name-or-strange : List ℕ → Option Word → Word
@@ -111,7 +97,7 @@ name-or-strange w (some r) = r
 name-or-strange w none = cond (name-shaped w) (name w) strange
 
 abbrev pub run-word : List ℕ → Word
-run-word w = name-or-strange w (beside reserved-words w)
+run-word w = name-or-strange w (beside reserved w)
 
 -- A byte is blank, begins a comment, belongs to a run, or is a word of its own: a sign, or strange.
 pub data Byte : Type 0 where
@@ -128,7 +114,7 @@ abbrev pub byte-kind : ℕ → Byte
 byte-kind b =
     elim (blank b) [
       | true ↦ space
-      | false ↦ elim (eqb b 35) [ true ↦ hash | false ↦ elim (name-byte b) [ true ↦ part | false ↦ lone-word (beside signs (b ∷ [])) ] ]
+      | false ↦ elim (eqb b 35) [ true ↦ hash | false ↦ elim (is-name-byte b) [ true ↦ part | false ↦ lone-word (beside signs (b ∷ [])) ] ]
     ]
 
 -- Where the cutting of a text stands: between words, in a comment, or in a run that began at an offset, with its bytes so far.
