@@ -1,4 +1,4 @@
--- The definitions, tried on routines for the small lock.
+-- From a routine's text and a lock to what comes of them, and texts to try reading on.
 use Prim.Native.Nat.{ℕ, zero, suc}
 use mathlib.Core.Bool.{Bool, true, false, _&&_}
 use mathlib.Core.List.{List, [], _∷_, _++_, map}
@@ -22,7 +22,6 @@ use Rattle.golog.specs.Jobs.Call.{perform, tell, ask}
 use Rattle.golog.specs.Grammar.{Names}
 use Rattle.golog.specs.Reading.{read, Reading, text-fault}
 use Rattle.golog.specs.Reading.TextFault.{misplaced, unknown, over-limit}
-use Rattle.golog.specs.SmallLock.{small-lock}
 
 -- what a call of a job is told
 pub data Told : Type 0 where
@@ -34,13 +33,6 @@ pub data Told : Type 0 where
 pub data Outcome : Type 0 where
   fault : Fault → Outcome
   sheet : ℕ → ℕ → List Told → Outcome
-
-pub record Case : Type 0 where
-  pub names : Names
-  pub lock : Meaning
-  pub text : List ℕ
-  pub calls : List Call
-  pub expected : Outcome
 
 abbrev told : Answer → Told
 told Answer.taken = done
@@ -64,72 +56,18 @@ routine-outcome m t cs one-way = sheet-outcome m t cs (make m t (positions m t) 
 routine-outcome m t cs (two-ways p q r) = fault (two-ways-fault p q r)
 
 -- read the text, check it for two ways, make a sheet in tables of just the size, pass it, and run the job
-abbrev pub outcome : Case → Outcome
-outcome c =
-    elim (read (c .names) (c .text)) [
-      | Reading.tree t ↦ routine-outcome (c .lock) t (c .calls) (ways (c .lock .facts) t)
+abbrev pub outcome : Names → Meaning → List ℕ → List Call → Outcome
+outcome names lock text calls =
+    elim (read names text) [
+      | Reading.tree t ↦ routine-outcome lock t calls (ways (lock .facts) t)
       | Reading.refused f ↦ fault (text-fault f)
     ]
 
--- the cases
+-- the names that the texts use
 abbrev small-names : Names
 small-names = record { facts = codes "wound" ∷ codes "shut" ∷ []; acts = codes "wind" ∷ codes "close" ∷ [] }
 
--- which reactions are marked: none; wind 1, the slipping; that and close 0
-abbrev no-mark : ℕ → ℕ → Bool
-no-mark a e = false
-
-abbrev slips : ℕ → ℕ → Bool
-slips a e = eqb a 0 && eqb e 1
-
-abbrev slips-and-closes : ℕ → ℕ → Bool
-slips-and-closes a e = elim (eqb a 0) [ true ↦ eqb e 1 | false ↦ eqb a 1 && eqb e 0 ]
-
-abbrev routine-case : Meaning → List ℕ → List Call → Outcome → Case
-routine-case m t cs o = record { names = small-names; lock = m; text = t; calls = cs; expected = o }
-
-abbrev fault-of : ℕ → ℕ → ℕ → Fault
-fault-of n l p = record { number = n; layer = l; place = p }
-
-abbrev job-at : Phase → ℕ → ℕ → ℕ → Told
-job-at f p n c = stands (record { phase = f; position = p; act = 255; number = n; count = c })
-
-abbrev wind-then-close : List ℕ
-wind-then-close = codes "while not wound do wind od ; close"
-
-abbrev pub cases : List Case
-cases =
-    routine-case (small-lock slips 1) wind-then-close [] (sheet 3 16 [])
-    ∷ routine-case (small-lock no-mark 0) wind-then-close [] (fault (fault-of 13 5 0))
-    ∷ routine-case (small-lock slips 0) wind-then-close [] (sheet 2 8 [])
-    ∷ routine-case (small-lock slips-and-closes 0) wind-then-close [] (sheet 2 8 [])
-    ∷ routine-case (small-lock slips 1) (codes "nil") [] (sheet 0 8 [])
-    ∷ routine-case (small-lock slips 1) (codes "( wind ) *") [] (sheet 0 16 [])
-    ∷ routine-case (small-lock no-mark 0) (codes "wind ; [wound] | wind ; [not wound]") [] (sheet 1 6 [])
-    ∷ routine-case (small-lock slips 1) (codes "wind ; close | wind ; close") [] (fault (fault-of 11 4 67))
-    ∷ routine-case (small-lock slips 1) (codes "wind wind") [] (fault (fault-of 7 3 5))
-    ∷ routine-case (small-lock slips 1) wind-then-close
-    (ask ∷ perform ∷ tell 1 ∷ ask ∷ perform ∷ tell 1 ∷ tell 0 ∷ ask ∷ perform ∷ tell 0 ∷ ask ∷ [])
-    (sheet 3 16
-    (job-at ready 1 3 0
-    ∷ done
-    ∷ done
-    ∷ job-at ready 8 2 1
-    ∷ done
-    ∷ turned-back (fault-of 22 7 8)
-    ∷ done
-    ∷ job-at ready 10 1 2
-    ∷ done
-    ∷ done
-    ∷ job-at finished 22 0 3
-    ∷ []))
-    ∷ []
-
--- Each case comes out as expected.
-abbrev pub CasesComeOut : Type 0
-CasesComeOut = map outcome cases ≡ map (λ c. c .expected) cases
-
--- Texts for the small lock's names, and what reading them answers. The strange sign behind a misplaced word is not looked at;
+-- Texts, and what reading them answers. The strange sign behind a misplaced word is not looked at;
 -- a name of 25 letters is none; a comment needs no LF; a name in the other's place is not known.
 abbrev repeated : ℕ → List ℕ → List ℕ → List ℕ
 repeated zero w end = end

@@ -10,5 +10,4 @@ pub mod Jobs
 pub mod Words
 pub mod Grammar
 pub mod Reading
-pub mod SmallLock
 pub mod Cases

@@ -5,7 +5,7 @@ ghost use Rattle.golog.specs.Grammar.{OneTree};
 ghost use Rattle.golog.specs.Reading.{ReadingIsGrammar, MisplacedIsFirst, UnknownIsFirst, ReadIsBounded};
 ghost use Rattle.golog.specs.Sheets.{PassIsAccepts, NumbersAreLeast};
 ghost use Rattle.golog.specs.Sureness.{WithinIsEnding, MakeIsSure, MadeIsAccepted, PlainFinishes, PlainTracks};
-ghost use Rattle.golog.specs.Cases.{CasesComeOut, TextsComeOut};
+ghost use Rattle.golog.specs.Cases.{TextsComeOut};
 
 // Trans, on the trees that remain, is coming next, on points.
 pub fn bridge_stands() -> u8
@@ -108,13 +108,6 @@ pub fn plain_job_finishes() -> u8
 // The plain job on an accepted sheet keeps its count, and Trans reaches its position, after any calls.
 pub fn plain_job_tracks() -> u8
     ensures { λ _. ⌜ PlainTracks ⌝ }
-{
-    0
-}
-
-// The definitions, computed on routines for a small lock, give what a reader finds by hand.
-pub fn cases_come_out() -> u8
-    ensures { λ _. ⌜ CasesComeOut ⌝ }
 {
     0
 }

@@ -1,5 +1,5 @@
 use mathlib.Core.Path.{refl}
-use Rattle.golog.proofs.cases_come_out.Needs as need
+use Rattle.worked.proofs.worked_cases_come_out.Needs as need
 
 pub returns : need.returns
 returns c = refl
