@@ -6,6 +6,7 @@ ghost use lib.ListN.{length};
 ghost use Rattle.std.specs.Options.{isSome};
 ghost use Rattle.std.specs.Results.{Cases};
 ghost use Rattle.std.specs.declared.option.Option.the-variants.{None};
+ghost use Rattle.items.specs.Layout.{said};
 ghost use Rattle.items.specs.Layout.Entry.{rule, change, state, move};
 ghost use Rattle.items.specs.Ranges.{head-field};
 ghost use Rattle.model.specs.Contents.{Contents, silence, with-item, rule-of, change-of, move-of};
@@ -16,6 +17,7 @@ ghost use Rattle.model.specs.Stands.{Lowest-stands, Fit};
 ghost use Rattle.items.specs.declared.item.Header.{Header as Head};
 use super::fault::ModelFault;
 use items::item::Header;
+use items::item::Item;
 use lowest::facts::Change;
 use lowest::facts::FactLock;
 use lowest::facts::Rule;
@@ -122,6 +124,44 @@ pub(crate) fn add_move(lowest: &mut Lowest, from: u16, act: u8, reaction: u8, af
         }
         _ => {}
     }
+}
+
+// Takes an item that may come next into the lock; what is not of the lock leaves it as it is.
+pub(crate) fn enter(lowest: &mut Lowest, item: Item<'_>) -> Result<(), ModelFault>
+    ensures { λ r. ⌜ Cases r (λ _. (h : Head) (c : Contents) → Lowest-stands (now (lowest .entry)) h c → Fit h c (said (item .entry)) → Lowest-stands (now (lowest .exit)) h (with-item c (said (item .entry)))) (λ f. f ≡ ModelFault.Memory) ⌝ }
+{
+    match item {
+        Item::Rule { act, need, lack } => add_rule(lowest, act, Rule { need, lack }),
+        Item::Change {
+            act,
+            reaction,
+            need,
+            lack,
+            set,
+            clear,
+        } => {
+            add_change(
+                lowest,
+                act,
+                reaction,
+                Change {
+                    need,
+                    lack,
+                    set,
+                    clear,
+                },
+            )
+        }
+        Item::State(valuation) => add_state(lowest, valuation)?,
+        Item::Move {
+            state,
+            act,
+            reaction,
+            after,
+        } => add_move(lowest, state, act, reaction, after),
+        _ => {}
+    }
+    Ok(())
 }
 
 // Whether each of so many acts has a rule.

@@ -30,7 +30,7 @@ fn of_model(fault: ModelFault) -> &'static str {
 }
 
 // The ground of a refusal in plain words.
-pub fn of(fault: FileFault) -> &'static str {
+pub(crate) fn of(fault: FileFault) -> &'static str {
     match fault {
         FileFault::TooLong(_) => "the file is too long",
         FileFault::Model(inner) => of_model(inner),

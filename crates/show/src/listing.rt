@@ -119,7 +119,7 @@ fn first_state(rt: &LibcRuntime, job: &JobFile) -> Result<(), Failure> {
 }
 
 // Everything that a foreman proof-reads.
-pub fn print(rt: &LibcRuntime, job: &JobFile) -> Result<(), Failure> {
+pub(crate) fn print(rt: &LibcRuntime, job: &JobFile) -> Result<(), Failure> {
     all_names(rt, "facts", job.facts(), job.lock().facts())?;
     all_names(rt, "acts", job.acts(), job.lock().acts())?;
     println!(rt, "states {} with the allowance", job.lock().states())?;

@@ -18,10 +18,11 @@ module _ {X : Type 0} (P : ℕ → X → Bool) (d : X) (xs : List X) (x : X) (fa
   falls-push : (i : ℕ) → i < length (xs ++ x ∷ []) → P i (getD (xs ++ x ∷ []) i d) ≡ true
   falls-push i h =
       elim (cases-lt i (length xs)) [
-        inl lt ↦ rw (getD-append-left xs (x ∷ []) d i lt) (falls i lt)
-      | inr ge ↦
-          let e : i ≡ length xs = omega (arith, length-push xs x) in
-          rw (getD-push xs x d i (sym e)) (subst (λ k. P k x ≡ true) (sym e) low) ]
+        | inl lt ↦ rw (getD-append-left xs (x ∷ []) d i lt) (falls i lt)
+        | inr ge ↦
+            let e : i ≡ length xs = omega (arith, length-push xs x) in
+            rw (getD-push xs x d i (sym e)) (subst (λ k. P k x ≡ true) (sym e) low)
+      ]
 
   -- whether or not the entry was added
   pub falls-grown : (b : Bool) (ys : List X) → ys ≡ cond b (xs ++ x ∷ []) xs → (i : ℕ) → i < length ys → P i (getD ys i d) ≡ true

@@ -30,7 +30,7 @@ cond-agree f g i (Or a b) h e =
     let p = and-parts (ltb a i) (ltb b i) h in ap₂ any (e a (ltb-true a i (p .0))) (e b (ltb-true b i (p .1)))
 
 prog-agree : (f g : ℕ → Prog) (t u : ℕ → Cond) (n i : ℕ) (x : Node) → prog-lower n i x ≡ true →
-  ((a : ℕ) → a < i → f a ≡ g a) → ((c : ℕ) → c < n → t c ≡ u c) → prog-node f t x ≡ prog-node g u x
+    ((a : ℕ) → a < i → f a ≡ g a) → ((c : ℕ) → c < n → t c ≡ u c) → prog-node f t x ≡ prog-node g u x
 prog-agree f g t u n i (Act a) h e k = refl
 prog-agree f g t u n i (Test c) h e k = ap test (k c (ltb-true c n h))
 prog-agree f g t u n i (Seq a b) h e k =
@@ -63,7 +63,7 @@ prog-deep n ns cs falls (suc k) (suc j) i within p q =
     (λ a h. prog-deep n ns cs falls k j a (omega arith) (omega arith) (omega arith)) (λ c h. refl)
 
 pub prog-unrolled : (n : ℕ) (ns : List Node) (cs : List Clause) → ProgFalls n ns → (i : ℕ) → i < length ns →
-  prog-of ns cs i ≡ prog-node (prog-of ns cs) (cond-of cs) (getD ns i (Act 0))
+    prog-of ns cs i ≡ prog-node (prog-of ns cs) (cond-of cs) (getD ns i (Act 0))
 unfolding prog-to prog-of
 prog-unrolled n ns cs falls i within =
     prog-agree (prog-to i ns cs) (λ a. prog-to (suc a) ns cs a) _ _ n i (getD ns i (Act 0)) (falls i within)
@@ -82,7 +82,7 @@ unfolding cond-of
 cond-kept cs more falls i h = cond-to-kept cs more falls (suc i) i h
 
 prog-to-kept : (ns more : List Node) (cs extra : List Clause) → CondFalls cs → ProgFalls (length cs) ns → (k i : ℕ) → i < length ns →
-  prog-to k (ns ++ more) (cs ++ extra) i ≡ prog-to k ns cs i
+    prog-to k (ns ++ more) (cs ++ extra) i ≡ prog-to k ns cs i
 unfolding prog-to
 prog-to-kept ns more cs extra conds falls zero i h = refl
 prog-to-kept ns more cs extra conds falls (suc k) i h =
@@ -91,6 +91,6 @@ prog-to-kept ns more cs extra conds falls (suc k) i h =
     (λ a l. prog-to-kept ns more cs extra conds falls k a (omega arith)) (λ c l. cond-kept cs extra conds c l)
 
 pub prog-kept : (ns more : List Node) (cs extra : List Clause) → CondFalls cs → ProgFalls (length cs) ns → (i : ℕ) → i < length ns →
-  prog-of (ns ++ more) (cs ++ extra) i ≡ prog-of ns cs i
+    prog-of (ns ++ more) (cs ++ extra) i ≡ prog-of ns cs i
 unfolding prog-of
 prog-kept ns more cs extra conds falls i h = prog-to-kept ns more cs extra conds falls (suc i) i h

@@ -29,7 +29,7 @@ impl Names {
     pub fn count(&self) -> usize
         ensures { λ r. ⌜ r ≡ length (name-list (now (self .entry))) ⌝ }
     {
-        self.list.len()
+        self.list.as_slice().len()
     }
 
     pub fn get(&self, number: usize) -> Option<&[u8]>

@@ -21,8 +21,6 @@ use items::place::place;
 use items::range::bad_field;
 use items::range::head_field;
 use locks::marks::Marks;
-use lowest::facts::Change;
-use lowest::facts::Rule;
 use records::split;
 use std::alloc::Global;
 use words::is_name;
@@ -107,50 +105,20 @@ impl<'a> Draft<'a> {
         ensures stands { λ r. ⌜ Cases r (λ _. (c : Contents) → Stands (now (self .entry)) c → Fit (now (self .entry) .head) c (said (item .entry)) → Stands (now (self .exit)) (with-item c (said (item .entry)))) (λ f. f ≡ ModelFault.Memory) ⌝ }
     {
         self.group = item.kind().group();
+        low::enter(&mut self.lowest, item)?;
         match item {
-            Item::Head(_) => {}
             Item::Fact(name) => self.facts.add(heap, name)?,
             Item::Act(name) => self.acts.add(heap, name)?,
-            Item::Rule { act, need, lack } => low::add_rule(
-                &mut self.lowest,
-                act,
-                Rule { need, lack },
-            ),
-            Item::Change {
-                act,
-                reaction,
-                need,
-                lack,
-                set,
-                clear,
-            } => {
-                low::add_change(
-                    &mut self.lowest,
-                    act,
-                    reaction,
-                    Change {
-                        need,
-                        lack,
-                        set,
-                        clear,
-                    },
-                )
-            }
-            Item::State(valuation) => low::add_state(&mut self.lowest, valuation)?,
-            Item::Move {
-                state,
-                act,
-                reaction,
-                after,
-            } => {
-                low::add_move(&mut self.lowest, state, act, reaction, after);
-                self.moves = self.moves.saturating_add(1);
-            }
+            Item::Move { .. } => self.moves = self.moves.saturating_add(1),
             Item::Mark { act, reaction } => {
                 self.marks.add(act, reaction);
             }
             Item::Allowance(k) => self.allowance = Some(k),
             Item::Routine(text) => self.text = Some(text),
+            Item::Head(_) => {}
+            Item::Rule { .. } => {}
+            Item::Change { .. } => {}
+            Item::State(_) => {}
         }
         Ok(())
     }

@@ -52,19 +52,30 @@ impl Tree {
         ensures clauses { λ r. ⌜ clauses r ≡ [] ⌝ }
         ensures nodes { λ r. ⌜ nodes r ≡ [] ⌝ }
     {
-        Tree { clauses: Vec::new(heap), nodes: Vec::new(heap) }
+        Tree {
+            clauses: Vec::new(heap),
+            nodes: Vec::new(heap),
+        }
     }
 
     pub fn clause(&self, i: u16) -> Option<Clause>
         ensures { λ r. ⌜ BySome r (length (clauses (now (self .entry))) ≤ i) (λ c. (i < length (clauses (now (self .entry)))) × (c ≡ getD (clauses (now (self .entry))) i Clause.True)) ⌝ }
     {
-        if (i as usize) < self.clauses.len() { Some(self.clauses[i as usize]) } else { None }
+        if (i as usize) < self.clauses.len() {
+            Some(self.clauses[i as usize])
+        } else {
+            None
+        }
     }
 
     pub fn node(&self, i: u16) -> Option<Node>
         ensures { λ r. ⌜ BySome r (length (nodes (now (self .entry))) ≤ i) (λ n. (i < length (nodes (now (self .entry)))) × (n ≡ getD (nodes (now (self .entry))) i (Node.Act 0))) ⌝ }
     {
-        if (i as usize) < self.nodes.len() { Some(self.nodes[i as usize]) } else { None }
+        if (i as usize) < self.nodes.len() {
+            Some(self.nodes[i as usize])
+        } else {
+            None
+        }
     }
 
     // One condition more, of parts that are there; its number.
