@@ -16,7 +16,7 @@ use Rattle.golog.specs.Programs.Step.{by-act, in-first, in-second, in-left, in
 use Rattle.golog.specs.Points.{act-words, words, points, word, rem, numbered-from, numbered, takes, next, NextIsTrans}
 
 -- a program with its acts renamed
-abbrev renamed : (ℕ → ℕ) → Prog → Prog
+abbrev pub renamed : (ℕ → ℕ) → Prog → Prog
 renamed f (act a) = act (f a)
 renamed f (test c) = test c
 renamed f (seq p q) = seq (renamed f p) (renamed f q)
@@ -30,7 +30,7 @@ words-renamed f (seq p q) = simp (length-append, words-renamed f p, words-rename
 words-renamed f (alt p q) = simp (length-append, words-renamed f p, words-renamed f q)
 words-renamed f (star p) = words-renamed f p
 
-final-renamed : (f : ℕ → ℕ) (ρ : Prog) (v : Valuation) → Final (renamed f ρ) v ≡ Final ρ v
+pub final-renamed : (f : ℕ → ℕ) (ρ : Prog) (v : Valuation) → Final (renamed f ρ) v ≡ Final ρ v
 final-renamed f (act a) v = refl
 final-renamed f (test c) v = refl
 final-renamed f (seq p q) v = ap₂ _&&_ (final-renamed f p v) (final-renamed f q v)
@@ -91,7 +91,7 @@ cond-renamed : (f : ℕ → ℕ) (b : Bool) (x y : Prog) → cond b (renamed f x
 cond-renamed f true x y = refl
 cond-renamed f false x y = refl
 
-rem-renamed : (f : ℕ → ℕ) (ρ : Prog) (k : ℕ) → rem (renamed f ρ) k ≡ renamed f (rem ρ k)
+pub rem-renamed : (f : ℕ → ℕ) (ρ : Prog) (k : ℕ) → rem (renamed f ρ) k ≡ renamed f (rem ρ k)
 rem-renamed f (act a) zero = refl
 rem-renamed f (act a) (suc zero) = refl
 rem-renamed f (act a) (suc (suc k)) = refl
@@ -283,7 +283,7 @@ named : (δ : Prog) → renamed (word δ) (numbered δ) ≡ δ
 named δ = renamed-numbered (word δ) δ 0 (λ i k. ap (λ j. word δ (suc j)) (zero-add i))
 
 -- what remains is what remains of the numbered program, with the words named again
-named-rem : (δ : Prog) (p : ℕ) → renamed (word δ) (rem (numbered δ) p) ≡ rem δ p
+pub named-rem : (δ : Prog) (p : ℕ) → renamed (word δ) (rem (numbered δ) p) ≡ rem δ p
 named-rem δ p = sym (rem-renamed (word δ) (numbered δ) p) ∙ ap (λ r. rem r p) (named δ)
 
 -- a step of the numbered program leads to the point that it names

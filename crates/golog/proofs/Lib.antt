@@ -1,15 +1,18 @@
-mod Bridge
-mod Complete
-mod Sound
-mod ReadingProof
-mod Searches
-mod Passing
-mod Numbers
-mod Choosing
-mod Sure
-mod OneWays
-mod Accepted
-mod PlainJob
-mod ReadBounds
-mod Leads
-mod Refusals
+pub mod Accepted
+pub mod Bridge
+pub mod Choosing
+pub mod Complete
+pub mod Leads
+pub mod Likeness
+pub mod Limits
+pub mod MoreNames
+pub mod Numbers
+pub mod OneWays
+pub mod Passing
+pub mod PlainJob
+pub mod ReadBounds
+pub mod ReadingProof
+pub mod Refusals
+pub mod Searches
+pub mod Sound
+pub mod Sure

@@ -21,7 +21,7 @@ use Rattle.golog.proofs.Bridge.{next-in, words-numbered, rem-in-second, rem-in
 use Rattle.golog.proofs.Searches.{none-of, any-found, any-from, lowest-none, lowest-some}
 
 -- two valuations of so many facts that agree on them
-abbrev Agree : ℕ → Valuation → Valuation → Type 0
+abbrev pub Agree : ℕ → Valuation → Valuation → Type 0
 Agree n v w = (i : ℕ) → i < n → v i ≡ w i
 
 module _ (n : ℕ) (v w : Valuation) (h : Agree n v w) where
@@ -35,7 +35,7 @@ module _ (n : ℕ) (v w : Valuation) (h : Agree n v w) where
   eval-agree (any c d) k =
       let (a, b) = and-parts (cond-names-below n c) (cond-names-below n d) k in ap₂ _||_ (eval-agree c a) (eval-agree d b)
 
-  final-agree : (p : Prog) → names-below n p ≡ true → Final p v ≡ Final p w
+  pub final-agree : (p : Prog) → names-below n p ≡ true → Final p v ≡ Final p w
   final-agree (act a) k = refl
   final-agree (test c) k = eval-agree c k
   final-agree (seq p q) k =
@@ -65,7 +65,7 @@ names-cond : (n : ℕ) (b : Bool) (p q : Prog) → names-below n p ≡ true → 
 names-cond n true p q x y = x
 names-cond n false p q x y = y
 
-names-rem : (n : ℕ) (p : Prog) (k : ℕ) → names-below n p ≡ true → names-below n (rem p k) ≡ true
+pub names-rem : (n : ℕ) (p : Prog) (k : ℕ) → names-below n p ≡ true → names-below n (rem p k) ≡ true
 names-rem n (act a) zero h = refl
 names-rem n (act a) (suc zero) h = refl
 names-rem n (act a) (suc (suc k)) h = refl
@@ -88,10 +88,10 @@ any-agree zero t u h = refl
 any-agree (suc n) t u h = ap₂ _||_ (h n) (any-agree n t u h)
 
 module _ (n : ℕ) (v w : Valuation) (h : Agree n v w) (δ : Prog) (k : names-below n δ ≡ true) where
-  next-agree : (p q : ℕ) → next δ v p q ≡ next δ w p q
+  pub next-agree : (p q : ℕ) → next δ v p q ≡ next δ w p q
   next-agree p q = takes-agree n v w h (rem (numbered δ) p) q (names-rem n (numbered δ) p (names-numbered n 0 δ ∙ k))
 
-  goes-on-agree : (p : ℕ) → goes-on δ v p ≡ goes-on δ w p
+  pub goes-on-agree : (p : ℕ) → goes-on δ v p ≡ goes-on δ w p
   goes-on-agree p =
       ap₂ _||_ (final-agree n v w h (rem δ p) (names-rem n δ p k)) (any-agree (points δ) (next δ v p) (next δ w p) (next-agree p))
 
@@ -178,10 +178,10 @@ module _ (facts : ℕ) (δ : Prog) (k : names-below facts δ ≡ true) where
       (and-from (together facts δ p q r) (go-on-together facts δ q r) (together-tried p q r x) (go-on-tried q r y))
 
 -- past the last point nothing is taken
-Dead : Valuation → ℕ → Prog → Type 0
+unfoldable pub Dead : Valuation → ℕ → Prog → Type 0
 Dead v a p = (takes p v a ≡ false) × (Final p v ≡ false)
 
-dead-past : (v : Valuation) (a : ℕ) (p : Prog) (k : ℕ) → words p ≤ k → Dead v a (rem p (suc k))
+pub dead-past : (v : Valuation) (a : ℕ) (p : Prog) (k : ℕ) → words p ≤ k → Dead v a (rem p (suc k))
 unfolding Dead
 dead-past v a (act b) zero h = absurd (omega arith)
 dead-past v a (act b) (suc k) h = (refl, refl)
@@ -211,22 +211,22 @@ next-from δ v (suc p) q n =
 
 -- triples of numbers below n, in rising order, as numbers
 module _ (n p q r : ℕ) (a : q < n) (b : r < n) where
-  triple : ℕ
+  unfoldable pub triple : ℕ
   triple = (p * n + q) * n + r
 
-  triple-below : p < n → triple < n * n * n
+  pub triple-below : p < n → triple < n * n * n
   unfolding triple
   triple-below h = digits-lt (digits-lt h a) b
 
-  triple-outer : triple / (n * n) ≡ p
+  pub triple-outer : triple / (n * n) ≡ p
   unfolding triple
   triple-outer = sym (div-div-eq-div-mul ((p * n + q) * n + r) n n) ∙ (ap (λ x. x / n) (digits-div (p * n + q) b) ∙ digits-div p a)
 
-  triple-middle : (triple / n) % n ≡ q
+  pub triple-middle : (triple / n) % n ≡ q
   unfolding triple
   triple-middle = ap (λ x. x % n) (digits-div (p * n + q) b) ∙ digits-mod p a
 
-  triple-inner : triple % n ≡ r
+  pub triple-inner : triple % n ≡ r
   unfolding triple
   triple-inner = digits-mod (p * n + q) b
 

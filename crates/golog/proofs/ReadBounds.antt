@@ -19,7 +19,7 @@ use Rattle.golog.specs.Words.Behind.{asterisk, semicolon, bar, else-word, fi-w
 use Rattle.golog.specs.Words.CondBegin.{true-word, false-word, not-word}
 use Rattle.golog.specs.Words.CondBehind.{and-word, or-word, close-square, then-word, do-word}
 use Rattle.golog.specs.Grammar.{Names, one-up, number-of, Sort, CondSort, Reads, CondReads}
-use Rattle.golog.specs.Reading.{Sofar, CondSofar, Frame, Base, Nest, State, Advance, Reading, then-also, or-else, whole, operand, act-word, fact-word, close-choice, else-choice, fi-choice, od-choice, close-cond, square-cond, then-cond, do-cond, advance, depth, most-words, most-act-words, most-depth, in-limits, after-word, finish, read-on, start, ReadIsBounded}
+use Rattle.golog.specs.Reading.{Sofar, CondSofar, Frame, Base, Nest, State, Advance, Reading, then-also, or-else, whole, operand, act-word, fact-word, close-choice, else-choice, fi-choice, od-choice, close-cond, square-cond, then-cond, do-cond, advance, depth, most-words, most-act-words, most-depth, in-limits, after-word, finish, read-on, read, start}
 use Rattle.golog.specs.Reading.Frame.{in-round, in-then, in-else, in-do}
 use Rattle.golog.specs.Reading.Base.{of-test, of-if, of-while}
 use Rattle.golog.specs.Reading.Nest.{bracket, negation}
@@ -29,7 +29,7 @@ use Rattle.golog.specs.Reading.TextFault.{over-limit}
 use Rattle.golog.specs.Reading.Reading.{tree, refused}
 use Rattle.golog.proofs.ReadingProof.{reading-is-grammar, not-a-tree, same-tree}
 
-one-up-found : (x : Option ℕ) (i : ℕ) → one-up x ≡ some i → (j : ℕ) × (x ≡ some j) × (i ≡ suc j)
+pub one-up-found : (x : Option ℕ) (i : ℕ) → one-up x ≡ some i → (j : ℕ) × (x ≡ some j) × (i ≡ suc j)
 one-up-found none i e = let z : _≡_ {A = ℕ} 0 1 = cc in absurd (omega arith)
 one-up-found (some j) i e = (j, refl, cc)
 
@@ -288,7 +288,9 @@ read-bound N len (x ∷ ts) t n k s w l e =
     word-bound (x .offset) n k (read-on N len ts) t (advance N s (x .word)) (subst (λ i. WordsAfter i (advance N s (x .word))) w (advance-words N s (x .word)))
     (read-bound N len ts t) l e
 
-pub read-is-bounded : ReadIsBounded
-read-is-bounded N text t e =
+-- a text that is read has at most 63 act words in its tree
+pub tree-bound : (N : Names) (text : List ℕ) (t : Prog) → read N text ≡ tree t →
+    (names-below (length (N .facts)) t ≡ true) × (acts-below (length (N .acts)) t ≡ true) × (words t ≤ most-act-words)
+tree-bound N text t e =
     let r = reading-is-grammar N text t .0 e in
     (facts-known r, acts-known r, read-bound N (length text) (tokens text) t 0 0 start refl (omega arith) e)

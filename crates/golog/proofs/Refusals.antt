@@ -16,7 +16,7 @@ use Rattle.golog.specs.Words.CondBegin.{true-word}
 use Rattle.golog.specs.Words.CondBehind.{and-word, or-word, close-square, then-word, do-word}
 use Rattle.golog.specs.Grammar.{Names, number-of, Reads, TextReads}
 use Rattle.golog.specs.Grammar.Sort.{choice}
-use Rattle.golog.specs.Reading.{Sofar, CondSofar, Frame, Base, Nest, State, Advance, TextFault, Reading, whole, operand, act-word, fact-word, close-choice, else-choice, fi-choice, od-choice, close-cond, square-cond, then-cond, do-cond, advance, in-limits, after-word, finish, read-on, start, Begins, BeginsNone, WordAt, MisplacedIsFirst, UnknownIsFirst}
+use Rattle.golog.specs.Reading.{Sofar, CondSofar, Frame, Base, Nest, State, Advance, TextFault, Reading, whole, operand, act-word, fact-word, close-choice, else-choice, fi-choice, od-choice, close-cond, square-cond, then-cond, do-cond, advance, in-limits, after-word, finish, read-on, start, Begins, BeginsNone, WordAt, with-act, with-fact, MisplacedIsFirst, UnknownIsFirst}
 use Rattle.golog.specs.Reading.Frame.{in-round, in-then, in-else, in-do}
 use Rattle.golog.specs.Reading.Base.{of-test, of-if, of-while}
 use Rattle.golog.specs.Reading.Nest.{bracket, negation}
@@ -26,6 +26,8 @@ use Rattle.golog.specs.Reading.TextFault.{misplaced, unknown, over-limit}
 use Rattle.golog.specs.Reading.Reading.{tree, refused}
 use Rattle.golog.proofs.Complete.{Runs, moved, Settled, none-some, runs-on, runs-once, prog-runs}
 use Rattle.golog.proofs.Complete.Runs.{stay, move}
+use Rattle.golog.proofs.Likeness.{Alike, Frames, runs-alike, misfits}
+use Rattle.golog.proofs.MoreNames.{added, runs-with-act, runs-with-fact}
 use Rattle.golog.proofs.Sound.{Holds, none-before, runs-hold, whole-text}
 
 -- words lead from the state to the end of a routine
@@ -68,7 +70,7 @@ state-ends N (want-cond K A B L O) ws h = by-word (cond-begins true-word) refl (
 state-ends N (have-cond K A B L O c) ws h = have-cond-ends N K A B L O c (h .4 .2)
 
 -- words that lead somewhere are the beginning of a routine
-runs-begin : (N : Names) (ws : List Word) (s : State) → Runs N start ws s → Begins N ws
+pub runs-begin : (N : Names) (ws : List Word) (s : State) → Runs N start ws s → Begins N ws
 runs-begin N ws s r =
     let h = runs-hold N start s [] ws ([], [], refl, none-before N, refl) r in
     let (vs, A, p, u) = state-ends N s ws h in
@@ -94,6 +96,15 @@ nowhere N ws s w r e vs t x =
     let (_, f, _) = first-word z in
     none-some (sym e ∙ (ap (λ i. moved (advance N i w)) (runs-once r y) ∙ f))
 
+-- nor does one that does not fit, under any names
+nowhere-else : (N M : Names) (ws : List Word) (s : State) (w : Word) → Runs N start ws s → advance N s w ≡ misfit → BeginsNone M (ws ++ w ∷ [])
+nowhere-else N M ws s w r e vs t x =
+    let (A, p, u, _) = prog-runs x [] in
+    let v = subst (λ zs. Runs M start zs (have [] A p)) (append-assoc ws (w ∷ []) vs) u in
+    let (q, y, z) = runs-split M start ws (w ∷ vs) (have [] A p) v in
+    let (_, f, _) = first-word z in
+    none-some (sym (misfits N M w (runs-alike (Alike.wants Frames.no-frames) r y) e) ∙ f)
+
 -- what a refusal at a word comes from
 abbrev Cause : ℕ → (ℕ → ℕ → State → Reading) → TextFault → Advance → Type 0
 Cause o f F (goes s) = ((n : ℕ) × (k : ℕ) × (f n k s ≡ refused F)) ⊎ (over-limit o ≡ F)
@@ -115,7 +126,7 @@ cause o n k f F (goes-by-act s) e = limit-cause (in-limits (suc n) (suc k) s) (s
 cause o n k f F misfit e = same-fault e
 cause o n k f F unfamiliar e = same-fault e
 
-words-append : (ts us : List Token) → words-of (ts ++ us) ≡ words-of ts ++ words-of us
+pub words-append : (ts us : List Token) → words-of (ts ++ us) ≡ words-of ts ++ words-of us
 words-append [] us = refl
 words-append (t ∷ ts) us = ap (λ ws. t .word ∷ ws) (words-append ts us)
 
@@ -131,13 +142,18 @@ same-place e = cc
 not-refused : {t : Prog} {F : TextFault} → _≡_ {A = Reading} (tree t) (refused F) → ⊥
 not-refused {t} {F} e = let z : _≡_ {A = ℕ} 0 1 = cc in omega arith
 
+-- a state alike to one in which a whole routine was read is such a state
+finished : (len : ℕ) {s : State} {A : Sofar} {p : Prog} → Alike s (have [] A p) → (t : Prog) × (finish len s ≡ tree t)
+finished len (Alike.haves Frames.no-frames) = (_, refl)
+
 -- at the end, words are missing unless a whole routine was read
-missing : (N : Names) (len : ℕ) (ws : List Word) (s : State) (F : TextFault) → Runs N start ws s → finish len s ≡ refused F → (misplaced len ≡ F) × ((t : Prog) → Reads N choice ws t → ⊥)
+missing : (N : Names) (len : ℕ) (ws : List Word) (s : State) (F : TextFault) → Runs N start ws s → finish len s ≡ refused F → (misplaced len ≡ F) × ((M : Names) (t : Prog) → Reads M choice ws t → ⊥)
 missing N len ws s F r e = (
   place s e,
-  λ t x.
+  λ M t x.
       let (A, p, u, _) = prog-runs x [] in
-      not-refused (ap (finish len) (sym (runs-once r u)) ∙ e),
+      let (q, f) = finished len (runs-alike (Alike.wants Frames.no-frames) r u) in
+      not-refused (sym f ∙ e),
 )
   where
     place : (s : State) → finish len s ≡ refused F → misplaced len ≡ F
@@ -150,10 +166,10 @@ missing N len ws s F r e = (
 module _ (N : Names) (text : List ℕ) where
   abbrev Ground : ℕ → Type 0
   Ground o =
-      ((o ≡ length text) × Begins N (words-of (tokens text)) × ((t : Prog) → TextReads N text t → ⊥))
-      ⊎ ((ws : List Word) × (w : Word) × WordAt text o ws w × Begins N ws × BeginsNone N (ws ++ w ∷ []))
+      ((o ≡ length text) × Begins N (words-of (tokens text)) × ((M : Names) (t : Prog) → TextReads M text t → ⊥))
+      ⊎ ((ws : List Word) × (w : Word) × WordAt text o ws w × Begins N ws × ((M : Names) → BeginsNone M (ws ++ w ∷ [])))
 
-  one-further : (ts : List Token) (x : Token) (s r : State) → Runs N start (words-of ts) s → moved (advance N s (x .word)) ≡ some r →
+  pub one-further : (ts : List Token) (x : Token) (s r : State) → Runs N start (words-of ts) s → moved (advance N s (x .word)) ≡ some r →
       Runs N start (words-of (ts ++ x ∷ [])) r
   one-further ts x s r u e = subst (λ ws. Runs N start ws r) (sym (words-append ts (x ∷ []))) (runs-on u (move e stay))
 
@@ -181,19 +197,19 @@ module _ (N : Names) (text : List ℕ) where
             x .word,
             (ts, us, e ∙ ap (λ i. ts ++ token i (x .word) ∷ us) (same-place g), refl),
             runs-begin N (words-of ts) s r,
-            nowhere N (words-of ts) s (x .word) r (ap moved h),
+            λ M. nowhere-else N M (words-of ts) s (x .word) r h,
           )
       by unfamiliar h g go = absurd (not-unknown g)
 
 pub misplaced-is-first : MisplacedIsFirst
 misplaced-is-first N text o e = ground N text (tokens text) [] 0 0 start o refl stay e
 
--- what an unknown name stands for: an act or a fact that is not listed, where a listed one leads on
+-- what an unknown name stands for: an act or a fact that is not listed, and leads on where it is
 abbrev NameGround : Names → State → Word → Type 0
 NameGround N s w =
     (u : List ℕ) × (w ≡ name u)
-    × (((number-of (N .acts) u ≡ none) × ((v : List ℕ) (a : ℕ) → number-of (N .acts) v ≡ some a → (r : State) × (moved (advance N s (name v)) ≡ some r)))
-    ⊎ ((number-of (N .facts) u ≡ none) × ((v : List ℕ) (i : ℕ) → number-of (N .facts) v ≡ some i → (r : State) × (moved (advance N s (name v)) ≡ some r))))
+    × (((number-of (N .acts) u ≡ none) × ((M : Names) (a : ℕ) → number-of (M .acts) u ≡ some a → (r : State) × (moved (advance M s (name u)) ≡ some r)))
+    ⊎ ((number-of (N .facts) u ≡ none) × ((M : Names) (i : ℕ) → number-of (M .facts) u ≡ some i → (r : State) × (moved (advance M s (name u)) ≡ some r))))
 
 abbrev IfUnfamiliar : Type 0 → Advance → Type 0
 IfUnfamiliar X (goes s) = Unit {0}
@@ -254,12 +270,12 @@ do-cond-familiar X K A of-while (x ∷ L) c = tt
 
 act-unfamiliar : (N : Names) (K : List Frame) (A : Sofar) (u : List ℕ) (o : Option ℕ) → number-of (N .acts) u ≡ o →
     IfUnfamiliar (NameGround N (want K A) (name u)) (act-word K A o)
-act-unfamiliar N K A u none e = (u, refl, inl (e, λ v a f. (_, ap (λ i. moved (act-word K A i)) f)))
+act-unfamiliar N K A u none e = (u, refl, inl (e, λ M a f. (_, ap (λ i. moved (act-word K A i)) f)))
 act-unfamiliar N K A u (some a) e = tt
 
 fact-unfamiliar : (N : Names) (K : List Frame) (A : Sofar) (B : Base) (L : List Nest) (O : CondSofar) (u : List ℕ) (o : Option ℕ) → number-of (N .facts) u ≡ o →
     IfUnfamiliar (NameGround N (want-cond K A B L O) (name u)) (fact-word K A B L O o)
-fact-unfamiliar N K A B L O u none e = (u, refl, inr (e, λ v i f. (_, ap (λ j. moved (fact-word K A B L O j)) f)))
+fact-unfamiliar N K A B L O u none e = (u, refl, inr (e, λ M i f. (_, ap (λ j. moved (fact-word K A B L O j)) f)))
 fact-unfamiliar N K A B L O u (some i) e = tt
 
 unfamiliar-name : (N : Names) (s : State) (w : Word) → IfUnfamiliar (NameGround N s w) (advance N s w)
@@ -317,15 +333,16 @@ no-misplaced {o} {n} e = let z : _≡_ {A = ℕ} 0 1 = cc in omega arith
 same-unknown : {o n : ℕ} → unknown o ≡ unknown n → o ≡ n
 same-unknown e = cc
 
+leads-on : (N : Names) (ws : List Word) (s : State) (u : List ℕ) → Runs N start ws s → (r : State) × (moved (advance N s (name u)) ≡ some r) →
+    Begins N (ws ++ name u ∷ [])
+leads-on N ws s u x (r, e) = runs-begin N (ws ++ name u ∷ []) r (runs-on x (move e stay))
+
 module _ (N : Names) (text : List ℕ) where
   abbrev Unlisted : ℕ → Type 0
   Unlisted o =
       (ws : List Word) × (w : List ℕ) × WordAt text o ws (name w) × Begins N ws × BeginsNone N (ws ++ name w ∷ [])
-      × (((number-of (N .acts) w ≡ none) × ((u : List ℕ) (a : ℕ) → number-of (N .acts) u ≡ some a → Begins N (ws ++ name u ∷ [])))
-      ⊎ ((number-of (N .facts) w ≡ none) × ((u : List ℕ) (i : ℕ) → number-of (N .facts) u ≡ some i → Begins N (ws ++ name u ∷ []))))
-
-  leads-on : (ws : List Word) (s : State) (u : List ℕ) → Runs N start ws s → (r : State) × (moved (advance N s (name u)) ≡ some r) → Begins N (ws ++ name u ∷ [])
-  leads-on ws s u x (r, e) = runs-begin N (ws ++ name u ∷ []) r (runs-on x (move e stay))
+      × (((number-of (N .acts) w ≡ none) × Begins (with-act N w) (ws ++ name w ∷ []))
+      ⊎ ((number-of (N .facts) w ≡ none) × Begins (with-fact N w) (ws ++ name w ∷ [])))
 
   unlisted :
       (us ts : List Token) (n k : ℕ) (s : State) (o : ℕ) → tokens text ≡ ts ++ us → Runs N start (words-of ts) s →
@@ -351,8 +368,8 @@ module _ (N : Names) (text : List ℕ) where
             runs-begin N ws s r,
             subst (λ j. BeginsNone N (ws ++ j ∷ [])) i (nowhere N ws s (x .word) r (ap moved h)),
             elim d [
-              | inl (a, b) ↦ inl (a, λ v j m. leads-on ws s v r (b v j m))
-              | inr (a, b) ↦ inr (a, λ v j m. leads-on ws s v r (b v j m))
+              | inl (a, b) ↦ let (j, m) = added (N .acts) u in inl (a, leads-on (with-act N u) ws s u (runs-with-act N u r) (b (with-act N u) j m))
+              | inr (a, b) ↦ let (j, m) = added (N .facts) u in inr (a, leads-on (with-fact N u) ws s u (runs-with-fact N u r) (b (with-fact N u) j m))
             ],
           )
 

@@ -8,6 +8,7 @@ pub mod Sheets
 pub mod Sureness
 pub mod Jobs
 pub mod Words
+pub mod Counts
 pub mod Grammar
 pub mod Reading
 pub mod Cases

@@ -1,5 +1,5 @@
 -- Reading a routine's text word by word, front to back, with the fault of the first word that has one.
-use Prim.Native.Nat.{ℕ, suc, _+_, _≤_}
+use Prim.Native.Nat.{ℕ, suc, _+_, _<_, _≤_}
 use mathlib.Core.Bool.{Bool, true, false, _&&_}
 use mathlib.Core.List.{List, [], _∷_, _++_}
 use mathlib.Core.Logic.{_⊎_}
@@ -18,6 +18,7 @@ use Rattle.golog.specs.Words.Begin.{open-square, nil-word, if-word, while-word
 use Rattle.golog.specs.Words.Behind.{asterisk, semicolon, bar, else-word, fi-word, od-word}
 use Rattle.golog.specs.Words.CondBegin.{true-word, false-word, not-word}
 use Rattle.golog.specs.Words.CondBehind.{and-word, or-word, close-square, then-word, do-word}
+use Rattle.golog.specs.Counts.{acts-among, nesting}
 use Rattle.golog.specs.Grammar.{Names, number-of, Reads, TextReads}
 use Rattle.golog.specs.Grammar.Sort.{choice}
 
@@ -306,23 +307,51 @@ abbrev pub WordAt : List ℕ → ℕ → List Word → Word → Type 0
 WordAt text o ws w =
     (ts : List Token) × (us : List Token) × (tokens text ≡ ts ++ token o w ∷ us) × (words-of ts ≡ ws)
 
--- A misplaced word is the first with which no routine goes on; at the end of the text, words are missing.
+-- A misplaced word is the first with which no routine goes on; at the end of the text, words are missing: both whatever names are listed.
 abbrev pub MisplacedIsFirst : Type 0
 MisplacedIsFirst =
     (N : Names) (text : List ℕ) (o : ℕ) → read N text ≡ refused (misplaced o) →
-    ((o ≡ length text) × Begins N (text-words text) × ((t : Prog) → TextReads N text t → ⊥))
-    ⊎ ((ws : List Word) × (w : Word) × WordAt text o ws w × Begins N ws × BeginsNone N (ws ++ w ∷ []))
+    ((o ≡ length text) × Begins N (text-words text) × ((M : Names) (t : Prog) → TextReads M text t → ⊥))
+    ⊎ ((ws : List Word) × (w : Word) × WordAt text o ws w × Begins N ws × ((M : Names) → BeginsNone M (ws ++ w ∷ [])))
 
--- An unknown name is the first with which no routine goes on, though one would with a listed name in its place: of an act, or of a fact.
+-- the names with one act more, or one fact more
+abbrev pub with-act : Names → List ℕ → Names
+with-act N w = record { facts = N .facts; acts = N .acts ++ w ∷ [] }
+
+abbrev pub with-fact : Names → List ℕ → Names
+with-fact N w = record { facts = N .facts ++ w ∷ []; acts = N .acts }
+
+-- An unknown name is the first with which no routine goes on, though one would if it were listed: as an act, or as a fact.
 abbrev pub UnknownIsFirst : Type 0
 UnknownIsFirst =
     (N : Names) (text : List ℕ) (o : ℕ) → read N text ≡ refused (unknown o) →
     (ws : List Word) × (w : List ℕ) × WordAt text o ws (name w) × Begins N ws × BeginsNone N (ws ++ name w ∷ [])
-    × (((number-of (N .acts) w ≡ none) × ((u : List ℕ) (a : ℕ) → number-of (N .acts) u ≡ some a → Begins N (ws ++ name u ∷ [])))
-    ⊎ ((number-of (N .facts) w ≡ none) × ((u : List ℕ) (i : ℕ) → number-of (N .facts) u ≡ some i → Begins N (ws ++ name u ∷ []))))
+    × (((number-of (N .acts) w ≡ none) × Begins (with-act N w) (ws ++ name w ∷ []))
+    ⊎ ((number-of (N .facts) w ≡ none) × Begins (with-fact N w) (ws ++ name w ∷ [])))
 
--- The tree of a text that is read has only facts and acts that are listed, and at most 63 act words.
+-- the limits are kept behind these words; they are kept all along; one is passed
+abbrev pub Within : List Word → Type 0
+Within ws = (length ws ≤ most-words) × (acts-among ws ≤ most-act-words) × (nesting ws ≤ most-depth)
+
+abbrev pub Bounded : List Word → Type 0
+Bounded ws = (vs us : List Word) → ws ≡ vs ++ us → Within vs
+
+abbrev pub Passed : List Word → Type 0
+Passed ws = (most-words < length ws) ⊎ ((most-act-words < acts-among ws) ⊎ (most-depth < nesting ws))
+
+-- A word over the limits goes on a routine, and is the first with which a limit is passed: of words, of act words, or of nesting.
+abbrev pub OverLimitIsFirst : Type 0
+OverLimitIsFirst =
+    (N : Names) (text : List ℕ) (o : ℕ) → read N text ≡ refused (over-limit o) →
+    (ws : List Word) × (w : Word) × WordAt text o ws w × Begins N (ws ++ w ∷ []) × Bounded ws × Passed (ws ++ w ∷ [])
+
+-- A text within the limits that the grammar gives a tree is read.
+abbrev pub BoundedIsRead : Type 0
+BoundedIsRead = (N : Names) (text : List ℕ) (t : Prog) → TextReads N text t → Bounded (text-words text) → read N text ≡ tree t
+
+-- The tree of a text that is read has only facts and acts that are listed, and at most 63 act words; and the text keeps the limits all along.
 abbrev pub ReadIsBounded : Type 0
 ReadIsBounded =
     (N : Names) (text : List ℕ) (t : Prog) → read N text ≡ tree t →
     (names-below (length (N .facts)) t ≡ true) × (acts-below (length (N .acts)) t ≡ true) × (words t ≤ most-act-words)
+    × Bounded (text-words text)

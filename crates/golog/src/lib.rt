@@ -2,7 +2,7 @@
 ghost use Rattle.golog.specs.Points.{NextIsTrans, WaysIsOneWay};
 ghost use Rattle.golog.specs.Positions.{LeadIsTrans};
 ghost use Rattle.golog.specs.Grammar.{OneTree};
-ghost use Rattle.golog.specs.Reading.{ReadingIsGrammar, MisplacedIsFirst, UnknownIsFirst, ReadIsBounded};
+ghost use Rattle.golog.specs.Reading.{ReadingIsGrammar, MisplacedIsFirst, UnknownIsFirst, OverLimitIsFirst, BoundedIsRead, ReadIsBounded};
 ghost use Rattle.golog.specs.Sheets.{PassIsAccepts, NumbersAreLeast};
 ghost use Rattle.golog.specs.Sureness.{WithinIsEnding, MakeIsSure, MadeIsAccepted, PlainFinishes, PlainTracks};
 ghost use Rattle.golog.specs.Cases.{TextsComeOut};
@@ -42,21 +42,35 @@ pub fn reading_stands() -> u8
     0
 }
 
-// A misplaced word is the first with which no routine goes on.
+// A misplaced word is the first with which no routine goes on, whatever names are listed.
 pub fn misplaced_stands() -> u8
     ensures { λ _. ⌜ MisplacedIsFirst ⌝ }
 {
     0
 }
 
-// An unknown name is the first with which no routine goes on, though one would with a listed name.
+// An unknown name is the first with which no routine goes on, though one would if it were listed.
 pub fn unknown_stands() -> u8
     ensures { λ _. ⌜ UnknownIsFirst ⌝ }
 {
     0
 }
 
-// A text that is read names known facts and acts alone, and has at most 63 act words.
+// A word over the limits goes on a routine, and is the first with which a limit is passed.
+pub fn over_limit_stands() -> u8
+    ensures { λ _. ⌜ OverLimitIsFirst ⌝ }
+{
+    0
+}
+
+// A text within the limits that the grammar gives a tree is read.
+pub fn bounded_read_stands() -> u8
+    ensures { λ _. ⌜ BoundedIsRead ⌝ }
+{
+    0
+}
+
+// A text that is read names known facts and acts alone, and keeps the limits all along.
 pub fn read_bounds_stand() -> u8
     ensures { λ _. ⌜ ReadIsBounded ⌝ }
 {

@@ -2,6 +2,8 @@
 use Prim.Native.Nat.{ℕ, _+_}
 use mathlib.Core.List.{List}
 use lib.ListN.{getD}
+use Rattle.std.specs.declared.option.Option.{Option}
+use Rattle.std.specs.declared.option.Option.the-variants.{Some, None}
 use Rattle.records.specs.Split.{two-bytes}
 use Rattle.items.specs.declared.kind.Kind.{Kind}
 use Rattle.items.specs.declared.kind.Kind.the-variants.{Head, Fact, Act, Rule, Change, State, Move, Mark, Allowance, Routine}
@@ -56,6 +58,19 @@ kind-of-entry (move s a e t) = Move
 kind-of-entry (mark a e) = Mark
 kind-of-entry (allowance k) = Allowance
 kind-of-entry (routine t) = Routine
+
+-- the text of a routine
+abbrev pub text-in : Entry → Option (List ℕ)
+text-in (head h) = None
+text-in (fact n) = None
+text-in (act n) = None
+text-in (rule a n l) = None
+text-in (change a e n l s c) = None
+text-in (state v) = None
+text-in (move s a e t) = None
+text-in (mark a e) = None
+text-in (allowance k) = None
+text-in (routine t) = Some t
 
 -- what an item that the code holds says
 abbrev pub said : Item → Entry

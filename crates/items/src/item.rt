@@ -2,9 +2,9 @@ ghost use mathlib.Core.Path.{_≡_};
 ghost use mathlib.Core.Bool.{true, false};
 ghost use Prim.Native.Nat.{ℕ, _+_, _<_, _≤_};
 ghost use lib.ListN.{length, getD};
-ghost use Rattle.std.specs.Options.{Cases as BySome};
+ghost use Rattle.std.specs.Options.{mapped, Cases as BySome};
 ghost use Rattle.items.specs.Kinds.{fits-length};
-ghost use Rattle.items.specs.Layout.{entry, header, word, said, kind-of-entry};
+ghost use Rattle.items.specs.Layout.{entry, header, word, said, kind-of-entry, text-in};
 use super::kind::Kind;
 use records::join;
 
@@ -136,6 +136,18 @@ impl Item<'_> {
             Item::Mark { .. } => Kind::Mark,
             Item::Allowance(_) => Kind::Allowance,
             Item::Routine(_) => Kind::Routine,
+        }
+    }
+}
+
+impl<'a> Item<'a> {
+    // The text of a routine.
+    pub fn text(self) -> Option<&'a [u8]>
+        ensures { λ r. ⌜ mapped now r ≡ text-in (said (self .entry)) ⌝ }
+    {
+        match self {
+            Item::Routine(text) => Some(text),
+            _ => None,
         }
     }
 }

@@ -1,4 +1,5 @@
 pub mod Verdict
 pub mod Format
+pub mod Refused
+pub mod Heard
 pub mod Held
-pub mod Faults

@@ -1,3 +1,2 @@
-// Job files: reading one whole, holding what it says, and telling why it is refused.
-pub mod fault;
+// Job files: reading one whole, and holding what it says.
 pub mod jobfile;

@@ -37,11 +37,18 @@ kind-said Mark body = refl
 kind-said Allowance body = refl
 kind-said Routine body = refl
 
-placed-formed : (form group at : ℕ) (body : List ℕ) (k : Option Kind) (i : Entry) → placed-as form group at body k ≡ Ok i → of-form (kind-of-entry i) form ≡ true
-placed-formed form group at body None i e = absurd (error-is-ok _ i e)
-placed-formed form group at body (Some k) i e =
+-- a record that is placed is of the lock's form and of no earlier group
+Placed-well : (form group : ℕ) → Entry → Type 0
+Placed-well form group i = (of-form (kind-of-entry i) form ≡ true) × (leb group (group-of (kind-of-entry i)) ≡ true)
+
+placed-well :
+    (form group at : ℕ) (body : List ℕ) (k : Option Kind) (i : Entry) → placed-as form group at body k ≡ Ok i → Placed-well form group i
+unfolding Placed-well
+placed-well form group at body None i e = absurd (error-is-ok _ i e)
+placed-well form group at body (Some k) i e =
     let p = passed (of-form k form) (leb group (group-of k)) (fits-length k (length body)) (entry k body) i _ _ _ e in
-    ap (λ x. of-form x form) (ap kind-of-entry (sym (p .1)) ∙ kind-said k body) ∙ p .2
+    let kind = ap kind-of-entry (sym (p .1)) ∙ kind-said k body in
+    (ap (λ x. of-form x form) kind ∙ p .2, ap (λ x. leb group (group-of x)) kind ∙ p .3)
 
 weighed-often-good : (b : Bool) (at : ℕ) (i j : Entry) → weighed-often b at i ≡ Ok j → (b ≡ false) × (i ≡ j)
 weighed-often-good true at i j e = absurd (error-is-ok _ j e)
@@ -57,17 +64,20 @@ weighed-field-good (Some o) h c at i j e = absurd (error-is-ok _ j e)
 weighed-field-good None h c at i j e =
     let g = weighed-name-good (name-fault (c .facts) (c .acts) at i) h c at i j e in (refl, g .0, g .1)
 
-weighed-fit : (p : Result Entry RecordFault) (h : Header) (c : Contents) (at : ℕ) (j : Entry) →
-    ((i : Entry) → p ≡ Ok i → of-form (kind-of-entry i) (h .form) ≡ true) → weighed h c at p ≡ Ok j → Fit h c j
-weighed-fit (Err f) h c at j formed e = absurd (error-is-ok _ j e)
-weighed-fit (Ok i) h c at j formed e =
+weighed-fit :
+    (p : Result Entry RecordFault) (h : Header) (c : Contents) (at : ℕ) (j : Entry) →
+    ((i : Entry) → p ≡ Ok i → Placed-well (h .form) (c .group) i) → weighed h c at p ≡ Ok j → Fit h c j
+unfolding Placed-well
+weighed-fit (Err f) h c at j well e = absurd (error-is-ok _ j e)
+weighed-fit (Ok i) h c at j well e =
     let g = weighed-field-good (bad-field h i) h c at i j e in
-    subst (Fit h c) (g .2) (record { formed = formed i refl; ranged = g .0; once = g .1 })
+    let w = well i refl in
+    subst (Fit h c) (g .2) (record { formed = w .0; ordered = w .1; ranged = g .0; once = g .1 })
 
 pub weigh-fit : (h : Header) (c : Contents) (at kind : ℕ) (body : List ℕ) (i : Entry) → weigh h c at kind body ≡ Ok i → Fit h c i
 weigh-fit h c at kind body i e =
     weighed-fit (placed (h .form) (c .group) at kind body) h c at i
-    (λ j q. placed-formed (h .form) (c .group) at body (kind-of kind) j q) e
+    (λ j q. placed-well (h .form) (c .group) at body (kind-of kind) j q) e
 
 -- the turn of a whole record that was weighed and found good
 pub turn-good :

@@ -61,10 +61,10 @@ field-inside h Allowance body o l e =
     omega (arith, eqb-true (length body) 1 l, first-bad-below 1 (field-tests h (entry Allowance body)) refl o e)
 field-inside h Routine body o l e = absurd (nothing-is-some o e)
 
--- an Ok behind three tests: the first and the last passed, and the value is the one given
+-- an Ok behind three tests: all passed, and the value is the one given
 pub passed : {X Y : Type 0} (p q r : Bool) (x i : X) (e₁ e₂ e₃ : Y) → cond p (cond q (cond r (Ok x) (Err e₁)) (Err e₂)) (Err e₃) ≡ Ok i →
-    (r ≡ true) × (x ≡ i) × (p ≡ true)
-passed true true true x i e₁ e₂ e₃ h = (refl, cc, refl)
+    (r ≡ true) × (x ≡ i) × (p ≡ true) × (q ≡ true)
+passed true true true x i e₁ e₂ e₃ h = (refl, cc, refl, refl)
 passed true true false x i e₁ e₂ e₃ h = absurd (error-is-ok e₁ i h)
 passed true false r x i e₁ e₂ e₃ h = absurd (error-is-ok e₂ i h)
 passed false q r x i e₁ e₂ e₃ h = absurd (error-is-ok e₃ i h)

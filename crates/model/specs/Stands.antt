@@ -3,6 +3,7 @@ use Prim.Native.Nat.{ℕ, _≤_}
 use mathlib.Core.Bool.{Bool, true, false}
 use mathlib.Core.List.{List, []}
 use mathlib.Core.Path.{_≡_}
+use lib.Dec.{leb}
 use lib.ListN.{length}
 use denote.Ref.{now}
 use Rattle.std.specs.declared.option.Option.{Option}
@@ -10,7 +11,7 @@ use Rattle.std.specs.declared.option.Option.the-variants.{Some, None}
 use Rattle.std.specs.Options.{mapped}
 use Rattle.words.specs.Listed.{name-list}
 use Rattle.items.specs.declared.item.Header.{Header}
-use Rattle.items.specs.Kinds.{of-form}
+use Rattle.items.specs.Kinds.{group-of, of-form}
 use Rattle.items.specs.Layout.{Entry, kind-of-entry}
 use Rattle.items.specs.Ranges.{bad-field}
 use Rattle.locks.specs.Meaning.{most-acts}
@@ -66,8 +67,9 @@ pub record Stands (d : Draft) (c : Contents) : Type 0 where
   pub allowance : d .allowance ≡ first-of (c .allowances)
   pub text : mapped now (d .text) ≡ first-of (c .texts)
 
--- an item that may come next: of the lock's form, its fields in range, and not once too often
+-- an item that may come next: of the lock's form, of no earlier group, its fields in range, and not once too often
 pub record Fit (h : Header) (c : Contents) (i : Entry) : Type 0 where
   pub formed : of-form (kind-of-entry i) (h .form) ≡ true
+  pub ordered : leb (c .group) (group-of (kind-of-entry i)) ≡ true
   pub ranged : bad-field h i ≡ None
   pub once : too-often h c i ≡ false

@@ -2,7 +2,7 @@
 -- The grounds are tried by rising number: 2 of the record as such, 3 of its fields, 4 of its name, 5 of its being there at all.
 use Prim.Native.Nat.{ℕ, _+_}
 use mathlib.Core.Bool.{Bool, true, false, _||_, cond}
-use mathlib.Core.List.{List, []}
+use mathlib.Core.List.{List, [], _∷_}
 use lib.Dec.{leb}
 use lib.ListN.{length}
 use Rattle.std.specs.declared.option.Option.{Option}
@@ -22,7 +22,7 @@ use Rattle.items.specs.Placed.{opened, placed}
 use Rattle.items.specs.Ranges.{bad-field, head-field}
 use Rattle.model.specs.Contents.{Contents, rule-of, change-of, move-of, marked-of, first-of}
 use Rattle.model.specs.declared.fault.ModelFault.{ModelFault}
-use Rattle.model.specs.declared.fault.ModelFault.the-variants.{Record, Field, BadName, SameName, TooOften}
+use Rattle.model.specs.declared.fault.ModelFault.the-variants.{Record, Field, BadName, SameName, TooOften, Missing}
 
 -- the bytes of a record before its body
 abbrev pub prefix : ℕ
@@ -107,7 +107,7 @@ turn-at (whole kind body rest) h c at = turned (weigh h c at kind body) rest
 abbrev pub turn : Header → Contents → ℕ → List ℕ → Result (Entry × List ℕ) ModelFault
 turn h c at bytes = turn-at (front bytes) h c at
 
--- the head at the front of a file, with the bytes behind it
+-- the head at the front of a file, with the bytes behind it; of a file without bytes the head is missing
 abbrev pub begun : Result Header ModelFault → List ℕ → Result (Header × List ℕ) ModelFault
 begun (Ok h) rest = Ok (h, rest)
 begun (Err f) rest = Err f
@@ -117,4 +117,5 @@ begin-at cut = Err (Record (Cut 0))
 begin-at (whole kind body rest) = begun (opening 0 kind body) rest
 
 abbrev pub begin : List ℕ → Result (Header × List ℕ) ModelFault
-begin file = begin-at (front file)
+begin [] = Err (Missing 0)
+begin (b ∷ bytes) = begin-at (front (b ∷ bytes))

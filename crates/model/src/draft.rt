@@ -20,3 +20,10 @@ pub struct Draft<'a> {
     allowance: Option<u8>,
     text: Option<&'a [u8]>,
 }
+
+// What a record that was taken leaves: the bytes behind it, and the routine's text if it was one.
+#[derive(Clone, Copy)]
+pub struct Taken<'a> {
+    pub rest: &'a [u8],
+    pub text: Option<&'a [u8]>,
+}

@@ -8,7 +8,7 @@ use std::io;
 
 const USAGE: &str = "usage: sheet [JOBFILE]
 Reads a job file, or standard input where none is named, of at most 16384 bytes.
-Prints one line: the states of its lock, or the refusal's number, layer and place.
+Prints one line: the points of its routine and the states of its lock, or the refusal's number, layer and place.
 Ends with status 1 if the file is refused or cannot be read.";
 
 // Why the program ends with a failing status.

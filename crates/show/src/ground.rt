@@ -1,7 +1,9 @@
-use jobfile::fault::FileFault;
+use faults::fault::FileFault;
 use locks::allowance::LayerFault;
 use model::fault::ModelFault;
 use records::RecordFault;
+use routine::fault::RoutineFault;
+use text::fault::TextFault;
 
 fn of_record(fault: RecordFault) -> &'static str {
     match fault {
@@ -29,10 +31,29 @@ fn of_model(fault: ModelFault) -> &'static str {
     }
 }
 
+fn of_text(fault: TextFault) -> &'static str {
+    match fault {
+        TextFault::Word(_) => "this is no word of a routine",
+        TextFault::Misplaced(_) => "the word does not fit there, or the text ends too soon",
+        TextFault::Unknown(_) => "no act, or no fact, has this name",
+        TextFault::OverLimit(_) => "too many words, too many acts, or too deep",
+        TextFault::Memory => "there is no memory for what the text says",
+    }
+}
+
+fn of_routine(fault: RoutineFault) -> &'static str {
+    match fault {
+        RoutineFault::TwoWays { .. } => "one act has two ways on from a point, and both may go on",
+        RoutineFault::Memory => "there is no memory for what the routine says",
+    }
+}
+
 // The ground of a refusal in plain words.
 pub(crate) fn of(fault: FileFault) -> &'static str {
     match fault {
         FileFault::TooLong(_) => "the file is too long",
         FileFault::Model(inner) => of_model(inner),
+        FileFault::Text(inner) => of_text(inner),
+        FileFault::Routine(inner) => of_routine(inner),
     }
 }

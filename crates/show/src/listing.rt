@@ -1,6 +1,8 @@
 use super::Failure;
 use super::FailureFromAlloc;
 use super::FailureFromIo;
+use super::program;
+use super::routine;
 use jobfile::jobfile::JobFile;
 use locks::lock::Lock;
 use pile::pile::PileLock;
@@ -9,7 +11,7 @@ use words::names::Names;
 const REACTIONS: u8 = 8;
 
 // Prints the name of a number, which is a word of ASCII letters.
-fn name(rt: &LibcRuntime, names: &Names, number: u8) -> Result<(), Failure> {
+pub(crate) fn name(rt: &LibcRuntime, names: &Names, number: u8) -> Result<(), Failure> {
     if let Some(word) = names.get(number as usize) {
         rt.stdout().write_all(word)?;
     }
@@ -128,5 +130,6 @@ pub(crate) fn print(rt: &LibcRuntime, job: &JobFile) -> Result<(), Failure> {
     println!(rt, "routine")?;
     rt.stdout().write_all(job.text())?;
     println!(rt, "")?;
-    Ok(())
+    program::print(rt, job)?;
+    routine::print(rt, job)
 }

@@ -1,7 +1,7 @@
 // For proof-reading a job file: prints by names what it holds, or why it is refused in plain words.
+use faults::fault::FileFault;
 use intake::LONGEST;
 use intake::take_in;
-use jobfile::fault::FileFault;
 use jobfile::jobfile::JobFile;
 use std::alloc::AllocError;
 use std::env;
@@ -9,12 +9,15 @@ use std::io;
 
 mod ground;
 mod listing;
+mod program;
+mod routine;
 
 const USAGE: &str = "usage: show [JOBFILE]
 Prints by names what a job file, or standard input where none is named, holds:
 the counts, the states of its lock, the marks and the allowance, what each act
-may bring in the first state, and the routine's text. A file that is refused
-gets the refusal's line and its ground in plain words.
+may bring in the first state, the routine's text, the routine as it was read,
+and for each of its points what may come next. A file that is refused gets the
+refusal's line and its ground in plain words.
 Ends with status 1 if the file is refused or cannot be read.";
 
 // Why the program ends with a failing status.

@@ -19,7 +19,7 @@ use Rattle.tree.specs.declared.node.Node.the-variants.{Act, Test, Seq, Alt, St
 use Rattle.tree.specs.Trees.{cond-node, cond-to, cond-of, prog-node, prog-to, prog-of, cond-lower, prog-lower, CondFalls, ProgFalls}
 
 -- an entry does not depend on what stands at its place or above
-cond-agree : (f g : ℕ → Cond) (i : ℕ) (c : Clause) → cond-lower i c ≡ true → ((a : ℕ) → a < i → f a ≡ g a) → cond-node f c ≡ cond-node g c
+pub cond-agree : (f g : ℕ → Cond) (i : ℕ) (c : Clause) → cond-lower i c ≡ true → ((a : ℕ) → a < i → f a ≡ g a) → cond-node f c ≡ cond-node g c
 cond-agree f g i True h e = refl
 cond-agree f g i False h e = refl
 cond-agree f g i (Fact x) h e = refl
@@ -29,7 +29,7 @@ cond-agree f g i (And a b) h e =
 cond-agree f g i (Or a b) h e =
     let p = and-parts (ltb a i) (ltb b i) h in ap₂ any (e a (ltb-true a i (p .0))) (e b (ltb-true b i (p .1)))
 
-prog-agree : (f g : ℕ → Prog) (t u : ℕ → Cond) (n i : ℕ) (x : Node) → prog-lower n i x ≡ true →
+pub prog-agree : (f g : ℕ → Prog) (t u : ℕ → Cond) (n i : ℕ) (x : Node) → prog-lower n i x ≡ true →
     ((a : ℕ) → a < i → f a ≡ g a) → ((c : ℕ) → c < n → t c ≡ u c) → prog-node f t x ≡ prog-node g u x
 prog-agree f g t u n i (Act a) h e k = refl
 prog-agree f g t u n i (Test c) h e k = ap test (k c (ltb-true c n h))

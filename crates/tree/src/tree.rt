@@ -4,7 +4,7 @@ ghost use Rattle.tree.specs.Trees.{CondFalls, ProgFalls};
 use super::node::Clause;
 use super::node::Node;
 
-mod growing;
+pub mod growing;
 
 // Conditions and programs in tables.
 #[derive(Drop)]

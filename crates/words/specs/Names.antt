@@ -1,10 +1,12 @@
 -- Words and names: when two words are the same, which words are reserved, and what a name is.
-use Prim.Native.Nat.{ℕ}
+use Prim.Native.Nat.{ℕ, suc, _+_}
 use mathlib.Core.Bool.{Bool, true, false, not, _&&_, _||_}
 use mathlib.Core.List.{List, [], _∷_}
 use lib.Dec.{leb, eqb}
 use lib.ListN.{length, getD}
 use lib.Chars.{codes}
+use Rattle.std.specs.declared.option.Option.{Option}
+use Rattle.std.specs.declared.option.Option.the-variants.{Some, None}
 
 -- two words are the same if they have the same letters in the same order; capital letters count
 abbrev pub same-word : List ℕ → List ℕ → Bool
@@ -17,6 +19,20 @@ same-word (x ∷ xs) (y ∷ ys) = eqb x y && same-word xs ys
 abbrev pub among : List ℕ → List (List ℕ) → Bool
 among w [] = false
 among w (v ∷ vs) = same-word w v || among w vs
+
+-- the place of the first entry of a list that is the same word
+abbrev pub one-on : Option ℕ → Option ℕ
+one-on None = None
+one-on (Some i) = Some (suc i)
+
+abbrev pub position : List (List ℕ) → List ℕ → Option ℕ
+position [] w = None
+position (v ∷ vs) w = elim (same-word v w) [ true ↦ Some 0 | false ↦ one-on (position vs w) ]
+
+-- a place counted from an entry of the list
+abbrev pub further : ℕ → Option ℕ → Option ℕ
+further i None = None
+further i (Some k) = Some (i + k)
 
 abbrev pub reserved-words : List (List ℕ)
 reserved-words =

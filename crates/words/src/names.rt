@@ -5,7 +5,7 @@ ghost use Prim.Native.Nat.{ℕ, _+_, _<_, _≤_};
 ghost use lib.ListN.{length, getD};
 ghost use Rattle.std.specs.Options.{Cases as BySome};
 ghost use Rattle.std.specs.Results.{Cases};
-ghost use Rattle.words.specs.Names.{among};
+ghost use Rattle.words.specs.Names.{among, position};
 ghost use Rattle.words.specs.Listed.{name-list};
 use super::same_word;
 use std::alloc::AllocError;
@@ -52,6 +52,18 @@ impl Names {
             }
         }
         false
+    }
+
+    // The number of the first name that is this word.
+    pub fn find(&self, word: &[u8]) -> Option<usize>
+        ensures { λ r. ⌜ r ≡ position (name-list (now (self .entry))) (now (word .entry)) ⌝ }
+    {
+        for (i, name) in self.list.iter().enumerate() {
+            if same_word(name.as_slice(), word) {
+                return Some(i);
+            }
+        }
+        None
     }
 
     // One name more, behind the others; where memory is wanting the names stay as they were.

@@ -6,12 +6,13 @@ use lib.Chars.{codes}
 use lib.ListN.{getD}
 use Rattle.std.specs.declared.result.Result.{Result}
 use Rattle.std.specs.declared.result.Result.the-variants.{Ok, Err}
-use Rattle.items.specs.declared.item.Header.{Header}
-use Rattle.model.specs.Contents.{Contents, pile-said}
-use Rattle.jobfile.specs.declared.fault.FileFault.{FileFault}
-use Rattle.jobfile.specs.Verdict.{verdict}
-use Rattle.jobfile.specs.Faults.{fault-number, fault-layer, fault-place}
+use Rattle.model.specs.Contents.{pile-said}
+use Rattle.faults.specs.Faults.{model-number, layer-of, model-place}
+use Rattle.jobfile.specs.Verdict.{Refusal, Said, names-in, verdict}
+use Rattle.jobfile.specs.Verdict.Refusal.{too-long, of-model, of-text, of-ways}
 use Rattle.golog.specs.Faults.{Fault}
+use Rattle.golog.specs.Points.{two-ways-fault}
+use Rattle.golog.specs.Reading.{text-fault}
 use Rattle.golog.specs.Jobs.{Call, Phase}
 use Rattle.golog.specs.Jobs.Call.{perform, tell, ask}
 use Rattle.golog.specs.Jobs.Phase.{ready, finished}
@@ -23,10 +24,17 @@ use Rattle.worked.specs.Files.{small-file, mark-record, allowance-record}
 abbrev fault-of : ℕ → ℕ → ℕ → Fault
 fault-of n l p = record { number = n; layer = l; place = p }
 
--- a file that is read goes on to its routine: read the text, check it for two ways, make a sheet, pass it, and run the job
-abbrev after-reading : List Call → Result (Header × Contents) FileFault → Outcome
-after-reading calls (Err f) = fault (fault-of (fault-number f) (fault-layer f) (fault-place f))
-after-reading calls (Ok (h, c)) = outcome (record { facts = c .facts; acts = c .acts }) (pile-said h c) (getD (c .texts) 0 []) calls
+-- why a file is refused, as it is told
+abbrev told : Refusal → Fault
+told (too-long most) = fault-of 3 2 most
+told (of-model f) = fault-of (model-number f) (layer-of f) (model-place f)
+told (of-text f) = text-fault f
+told (of-ways p q r) = two-ways-fault p q r
+
+-- a file that is read goes on to its sheet: make it, pass it, and run the job
+abbrev after-reading : List Call → Result Said Refusal → Outcome
+after-reading calls (Err f) = fault (told f)
+after-reading calls (Ok s) = outcome (names-in (s .contents)) (pile-said (s .head) (s .contents)) (getD (s .contents .texts) 0 []) calls
 
 abbrev pub comes-of : List ℕ → List Call → Outcome
 comes-of file calls = after-reading calls (verdict file)

@@ -3,13 +3,15 @@ ghost use Rattle.std.specs.Of.Vec.{vec-items};
 ghost use Rattle.std.specs.Of.String.{string-bytes};
 ghost use Rattle.std.specs.Vec.{made};
 ghost use Rattle.pile.specs.Pile.{pile-meaning};
-ghost use Rattle.jobfile.specs.Held.{Blank};
-ghost use Rattle.jobfile.specs.Faults.{states-line};
+ghost use Rattle.golog.specs.Points.{points};
+ghost use Rattle.routine.specs.Routines.{routine-prog};
+ghost use Rattle.jobfile.specs.Held.{Blank, read-line};
 use super::JobFile;
 use locks::lock::Lock;
 use locks::marks::Marks;
 use pile::pile::Pile;
 use pile::pile::PileLock;
+use routine::routine::Routine;
 use std::alloc::AllocError;
 use std::alloc::Global;
 use words::names::Names;
@@ -26,6 +28,7 @@ impl JobFile {
             marks: Marks::none(),
             most: 0,
             text: Vec::new(heap),
+            routine: Routine::nil(),
         }
     }
 
@@ -67,11 +70,18 @@ impl JobFile {
         self.text.as_slice()
     }
 
-    // The line that tells how many states the lock has.
-    pub fn line(&self, heap: Global) -> Result<String, AllocError>
-        ensures { λ r. ⌜ made r (λ s. string-bytes s ≡ states-line (pile-meaning (now (self .entry) .lock) .states)) ⌝ }
+    pub fn routine(&self) -> &Routine
+        ensures { λ r. ⌜ now r ≡ now (self .entry) .routine ⌝ }
     {
+        &self.routine
+    }
+
+    // The line that tells how many points the routine has, and how many states the lock.
+    pub fn line(&self, heap: Global) -> Result<String, AllocError>
+        ensures { λ r. ⌜ made r (λ s. string-bytes s ≡ read-line (points (routine-prog (now (self .entry) .routine))) (pile-meaning (now (self .entry) .lock) .states)) ⌝ }
+    {
+        let points = self.routine.points();
         let states = self.lock.states();
-        format!(heap, "states {states}")
+        format!(heap, "points {points} states {states}")
     }
 }

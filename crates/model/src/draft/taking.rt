@@ -6,7 +6,8 @@ ghost use lib.ListN.{length as size};
 ghost use Rattle.std.specs.declared.result.Result.the-variants.{Ok, Err};
 ghost use Rattle.std.specs.Results.{Cases};
 ghost use Rattle.words.specs.Listed.{name-list};
-ghost use Rattle.items.specs.Layout.{Entry, said};
+ghost use Rattle.std.specs.Options.{mapped};
+ghost use Rattle.items.specs.Layout.{Entry, said, text-in};
 ghost use Rattle.model.specs.Contents.{Contents, silence, with-item};
 ghost use Rattle.model.specs.Weigh.{begin, misnamed, name-fault, too-often, weigh, turn};
 ghost use Rattle.model.specs.Stands.{Stands, Fit};
@@ -15,6 +16,7 @@ use super::super::fault::ModelFromAlloc;
 use super::super::fault::ModelFromRecord;
 use super::super::low;
 use super::Draft;
+use super::Taken;
 use items::item::Item;
 use items::place::open;
 use items::place::place;
@@ -127,6 +129,9 @@ impl<'a> Draft<'a> {
     pub fn begin(heap: Global, file: &'a [u8]) -> Result<(Draft<'a>, &'a [u8]), ModelFault>
         ensures { λ r. ⌜ Cases r (λ p. (begin (now (file .entry)) ≡ Ok (p .0 .head, now (p .1))) × Stands (p .0) silence) (λ f. (f ≡ ModelFault.Memory) ⊎ (begin (now (file .entry)) ≡ Err f)) ⌝ }
     {
+        if file.is_empty() {
+            return Err(ModelFault::Missing(0));
+        }
         let record = split(file, 0)?;
         let head = open(0, record.kind, record.body)?;
         if let Some(field) = head_field(&head) {
@@ -147,20 +152,39 @@ impl<'a> Draft<'a> {
         Ok((draft, record.rest))
     }
 
-    // Takes the record at the front of the bytes, which end a file of this length, and gives the bytes behind it.
+    // Takes the record at the front of the bytes, which end a file of this length. A refused record ends the draft.
     pub fn next(
-        &mut self,
+        mut self,
         heap: Global,
         length: usize,
         bytes: &'a [u8],
-    ) -> Result<&'a [u8], ModelFault>
-        ensures head { λ _. ⌜ now (self .exit) .head ≡ now (self .entry) .head ⌝ }
-        ensures stands { λ r. ⌜ ((c : Contents) → Stands (now (self .entry)) c → Cases r (λ more. (i : Entry) × (turn (now (self .entry) .head) c (length - size (now (bytes .entry))) (now (bytes .entry)) ≡ Ok (i, now more)) × Stands (now (self .exit)) (with-item c i)) (λ f. (f ≡ ModelFault.Memory) ⊎ (turn (now (self .entry) .head) c (length - size (now (bytes .entry))) (now (bytes .entry)) ≡ Err f))) ⌝ }
+    ) -> Result<(Draft<'a>, Taken<'a>), ModelFault>
+        ensures { λ r. ⌜ ((c : Contents) → Stands (self .entry) c → Cases r (λ t. (i : Entry) × (turn (self .entry .head) c (length - size (now (bytes .entry))) (now (bytes .entry)) ≡ Ok (i, now (t .1 .rest))) × (mapped now (t .1 .text) ≡ text-in i) × Stands (t .0) (with-item c i) × (t .0 .head ≡ self .entry .head)) (λ f. (f ≡ ModelFault.Memory) ⊎ (turn (self .entry .head) c (length - size (now (bytes .entry))) (now (bytes .entry)) ≡ Err f))) ⌝ }
     {
         let at = length.saturating_sub(bytes.len());
         let record = split(bytes, at)?;
         let item = self.weigh(at, record.kind, record.body)?;
         self.enter(heap, item)?;
-        Ok(record.rest)
+        let text = item.text();
+        Ok((
+            self,
+            Taken {
+                rest: record.rest,
+                text,
+            },
+        ))
+    }
+
+    // The names of the facts, and of the acts, that have come.
+    pub fn facts(&self) -> &Names
+        ensures { λ r. ⌜ now r ≡ now (self .entry) .facts ⌝ }
+    {
+        &self.facts
+    }
+
+    pub fn acts(&self) -> &Names
+        ensures { λ r. ⌜ now r ≡ now (self .entry) .acts ⌝ }
+    {
+        &self.acts
     }
 }

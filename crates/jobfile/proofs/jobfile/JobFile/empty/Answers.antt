@@ -12,4 +12,5 @@ returns c = record {
   marks = λ a e. ap (λ l. marked-in l a e) (c .none .ensures) ∙ unmarked 248 a e;
   most = search needs;
   text = search needs;
+  routine = search needs;
 }

@@ -1,0 +1,6 @@
+mod Cutting
+mod Stepping
+mod Growing
+mod Conditions
+mod Programs
+mod Texts
