@@ -15,7 +15,7 @@ import re
 import sys
 
 WORD = r"[^\s(){}.;,@\"«»`|\[\]]+"
-DEFINITION = re.compile(rf"^(?:(?:abbrev|unfoldable|pub) )*({WORD}) :(?= |$)", re.M)
+DEFINITION = re.compile(rf"^ *(?:(?:abbrev|unfoldable|pub) )*({WORD}) :(?= |$)", re.M)
 TYPE = re.compile(rf"^(?:(?:pub) )?(?:data|record) ({WORD})", re.M)
 MEMBER = re.compile(rf"^ +(?:pub )?((?:{WORD} )+): ", re.M)
 LISTED = re.compile(rf"^ +((?:{WORD} )+): ", re.M)

@@ -13,8 +13,8 @@ use Rattle.golog.specs.Sheets.Made.{oversize}
 use Rattle.golog.specs.Sureness.{MadeIsAccepted}
 use Rattle.golog.proofs.Searches.{lowest_none, lowest_some, getD-table, length-table}
 use Rattle.golog.proofs.Passing.{first_in}
-use Rattle.golog.proofs.Numbers.{lead-in, usable-acts, surely_parts, surely_from, number_in, numbers_are_least}
-use Rattle.golog.proofs.Sure.{fits_few, first-number, made_some, made_none}
+use Rattle.golog.proofs.Numbers.{lead_in, usable_acts, surely_parts, surely_from, number_in, numbers_are_least}
+use Rattle.golog.proofs.Sure.{fits_few, first_number, made_some, made_none}
 
 numbers_to_length : (m : Meaning) (δ : Prog) (n : ℕ) → length (numbers_to m δ n) ≡ positions m δ
 numbers_to_length m δ zero = length-table (positions m δ) _
@@ -44,12 +44,12 @@ number_act m law δ few p n h e l =
                 let (q, f, v) = k y x in (
                   q,
                   f,
-                  elim (numbers_are_least m law δ few q (lead-in m law δ p a y q x f)) [
+                  elim (numbers_are_least m law δ few q (lead_in m law δ p a y q x f)) [
                     | inl (_, _, _, lq) ↦ let z = lq n v in omega arith
                     | inr (_, never) ↦ absurd (never n v)
                   ],
                 )) in
-                found a (usable-acts m law δ p a u) s (lowest m.acts (surely_below m δ (numbers m δ) (suc n) p)) refl
+                found a (usable_acts m law δ p a u) s (lowest m.acts (surely_below m δ (numbers m δ) (suc n) p)) refl
           ]
     ]
   where
@@ -63,14 +63,14 @@ module _ (m : Meaning) (δ : Prog) (p : ℕ) (h : p < positions m δ) where
   act_here : ℕ
   act_here = get_or (acts m δ) p no_act
 
-  number-here : ℕ
-  number-here = get_or (numbers m δ) p no_number
+  number_here : ℕ
+  number_here = get_or (numbers m δ) p no_number
 
-  act_by : (b : Bool) → eqb number-here 0 || eqb number-here no_number ≡ b →
-      act_here ≡ elim b [ true ↦ no_act | false ↦ first_act m δ (numbers m δ) p number-here ]
-  unfolding act_here number-here
+  act_by : (b : Bool) → eqb number_here 0 || eqb number_here no_number ≡ b →
+      act_here ≡ elim b [ true ↦ no_act | false ↦ first_act m δ (numbers m δ) p number_here ]
+  unfolding act_here number_here
   act_by b e =
-      let g : Bool → ℕ = λ b. elim b [ true ↦ no_act | false ↦ first_act m δ (numbers m δ) p number-here ] in
+      let g : Bool → ℕ = λ b. elim b [ true ↦ no_act | false ↦ first_act m δ (numbers m δ) p number_here ] in
       getD-table (positions m δ)
       (λ p. let n = get_or (numbers m δ) p no_number in elim (eqb n 0 || eqb n no_number) [ true ↦ no_act | false ↦ first_act m δ (numbers m δ) p n ]) p no_act h
       ∙ ap g e
@@ -113,21 +113,21 @@ module _ (m : Meaning) (law : Lawful m) (live : Live m) (δ : Prog) (few : posit
       let l = numbers_to_length m δ (positions m δ) in
       sym (get_or_append_left (numbers m δ) M no_number p (omega arith))
 
-  same-act : (p : ℕ) → p < positions m δ → get_or A' p no_act ≡ get_or (acts m δ) p no_act
+  same_act : (p : ℕ) → p < positions m δ → get_or A' p no_act ≡ get_or (acts m δ) p no_act
   unfolding A'
-  same-act p h =
+  same_act p h =
       let l : length (acts m δ) ≡ positions m δ = length-table (positions m δ) _ in
       get_or_append_left (acts m δ) B no_act p (omega arith)
 
-  number-there : (p : ℕ) → p < positions m δ → number_at m δ N' p ≡ get_or (numbers m δ) p no_number
-  number-there p h = number_in m δ N' p h ∙ sym (same_number p h)
+  number_there : (p : ℕ) → p < positions m δ → number_at m δ N' p ≡ get_or (numbers m δ) p no_number
+  number_there p h = number_in m δ N' p h ∙ sym (same_number p h)
 
-  sound-there : (p : ℕ) → p < positions m δ → sound_row m δ N' p (row m δ N' A' p) ≡ true
-  unfolding act_here number-here
-  sound-there p h =
+  sound_there : (p : ℕ) → p < positions m δ → sound_row m δ N' p (row m δ N' A' p) ≡ true
+  unfolding act_here number_here
+  sound_there p h =
       let v : ℕ = get_or (numbers m δ) p no_number in
       elim (numbers_are_least m law δ few p h) [
-        | inr (x, _) ↦ ap (sound_row m δ N' p) (no_row_at m δ N' A' p (number-there p h ∙ x))
+        | inr (x, _) ↦ ap (sound_row m δ N' p) (no_row_at m δ N' A' p (number_there p h ∙ x))
         | inl (b, lv, w, least) ↦
             let below = lv live in
             by_number v refl below w
@@ -137,28 +137,28 @@ module _ (m : Meaning) (law : Lawful m) (live : Live m) (δ : Prog) (few : posit
           Within m δ (get_or (numbers m δ) p no_number) p → sound_row m δ N' p (row m δ N' A' p) ≡ true
       by_number zero e l w =
           let f : get_or A' p no_act ≡ no_act =
-          same-act p h ∙ act_by m δ p h true (or_left (eqb (get_or (numbers m δ) p no_number) 0) (eqb (get_or (numbers m δ) p no_number) no_number) (eq-eqb (get_or (numbers m δ) p no_number) 0 e)) in
-          ap (sound_row m δ N' p) (row_at m δ N' A' p 0 no_act (number-there p h ∙ e) f (omega arith))
+          same_act p h ∙ act_by m δ p h true (or_left (eqb (get_or (numbers m δ) p no_number) 0) (eqb (get_or (numbers m δ) p no_number) no_number) (eq-eqb (get_or (numbers m δ) p no_number) 0 e)) in
+          ap (sound_row m δ N' p) (row_at m δ N' A' p 0 no_act (number_there p h ∙ e) f (omega arith))
           ∙ stop_true m δ N' p 0 no_act refl refl (subst (λ j. Within m δ j p) e w)
       by_number (suc n) e l w =
           let a : ℕ = first_act m δ (numbers m δ) p (suc n) in
           let f : get_or A' p no_act ≡ a =
-          same-act p h
+          same_act p h
           ∙ (act_by m δ p h false
           (or_from (eqb (get_or (numbers m δ) p no_number) 0) (eqb (get_or (numbers m δ) p no_number) no_number)
           (ne_eqb (get_or (numbers m δ) p no_number) 0 (λ x. omega arith)) (ne_eqb (get_or (numbers m δ) p no_number) no_number (λ x. omega arith)))
           ∙ ap (first_act m δ (numbers m δ) p) e) in
-          ap (sound_row m δ N' p) (row_at m δ N' A' p (suc n) a (number-there p h ∙ e) f (omega arith))
+          ap (sound_row m δ N' p) (row_at m δ N' A' p (suc n) a (number_there p h ∙ e) f (omega arith))
           ∙ act_true m δ N' p (suc n) a (omega arith)
           (surely_same m δ (numbers m δ) N' (suc n) p a law same_number (number_act m law δ few p n h e (omega arith)))
 
   has_first : get_or (numbers m δ) (first_position m) no_number < no_number → has_row (row m δ N' A' (first_position m)) ≡ true
   has_first l =
-      ap has_row (row_at m δ N' A' (first_position m) (get_or (numbers m δ) (first_position m) no_number) _ (number-there (first_position m) (first_in m law δ)) refl l)
+      ap has_row (row_at m δ N' A' (first_position m) (get_or (numbers m δ) (first_position m) no_number) _ (number_there (first_position m) (first_in m law δ)) refl l)
 
-  accepted-there : get_or (numbers m δ) (first_position m) no_number < no_number → Accepts m δ N' A'
+  accepted_there : get_or (numbers m δ) (first_position m) no_number < no_number → Accepts m δ N' A'
   unfolding N' A'
-  accepted-there l =
+  accepted_there l =
       let a = numbers_to_length m δ (positions m δ) in
       let b : length (acts m δ) ≡ positions m δ = length-table (positions m δ) _ in
       let c = length-append (numbers m δ) M in
@@ -167,7 +167,7 @@ module _ (m : Meaning) (law : Lawful m) (live : Live m) (δ : Prog) (few : posit
             (and_from (leb (positions m δ) (length N')) (leb (positions m δ) (length A')) (le-leb (positions m δ) (length N') (omega arith))
             (le-leb (positions m δ) (length A') (omega arith))),
         has_first l,
-        sound-there,
+        sound_there,
       )
 
 pub made_is_accepted : MadeIsAccepted
@@ -183,7 +183,7 @@ made_is_accepted m law live δ N A n r e = go (fits m δ (length N) (length A)) 
         let g : Bool → List ℕ × List ℕ =
         λ b. elim b [ true ↦ (numbers m δ ++ drop (positions m δ) N, acts m δ ++ drop (positions m δ) A) | false ↦ (N, A) ] in
         let t : goal (g true) =
-        elim (cases_eq (first-number m δ) no_number) [
+        elim (cases_eq (first_number m δ) no_number) [
           | inl x ↦
               let y = sym (made_none m δ (length N) (length A) f x) ∙ e in
               let z : ◌≡◌ {A = ℕ} 0 1 = cc in
@@ -193,9 +193,9 @@ made_is_accepted m law live δ N A n r e = go (fits m δ (length N) (length A)) 
                 | inr (y, _) ↦ absurd (x y)
                 | inl (b, _, _, _) ↦
                     let y = sym (made_some m δ (length N) (length A) f (omega arith)) ∙ e in
-                    let z : first-number m δ ≡ n = cc in (
-                      accepted-there m law live δ few (drop (positions m δ) N) (drop (positions m δ) A) (omega arith),
-                      number-there m law live δ few (drop (positions m δ) N) (drop (positions m δ) A) (first_position m) (first_in m law δ) ∙ z,
+                    let z : first_number m δ ≡ n = cc in (
+                      accepted_there m law live δ few (drop (positions m δ) N) (drop (positions m δ) A) (omega arith),
+                      number_there m law live δ few (drop (positions m δ) N) (drop (positions m δ) A) (first_position m) (first_in m law δ) ∙ z,
                     )
               ]
         ] in

@@ -31,11 +31,11 @@ one_remainder δ one v w p q r a b e g h =
 
 -- the point and the state of a position
 module _ (m : Meaning) (k s : ℕ) (h : s < m.states) where
-  pub point-position : point_of m (position m k s) ≡ k
-  point-position = digits_div k h
+  pub point_position : point_of m (position m k s) ≡ k
+  point_position = digits_div k h
 
-  pub state-position : state_of m (position m k s) ≡ s
-  state-position = digits_mod k h
+  pub state_position : state_of m (position m k s) ≡ s
+  state_position = digits_mod k h
 
 -- a program that has a step, or may stop, goes on
 pub step_goes_on : (δ : Prog) (v : Valuation) (q a : ℕ) (δ' : Prog) → Step v a (rem δ q) δ' → goes_on δ v q ≡ true
@@ -97,8 +97,8 @@ ends_within m law δ one f (suc n) h p (inr (a, _, (e₀, δ₀, s₀, (t₀, x�
           let r = one_remainder δ one v (m.holds s) (point_of m p) q k nq nk (wq ∙ sym (eqb-true (word δ k) a wk)) gq gk in
           let b = law.after_below (state_of m p) a e x in
           let ends₂ : Ends m f n (h ++ (a, e) ∷ []) (rem_at m δ (position m k s)) (state_of m (position m k s)) =
-          subst (λ j. Ends m f n (h ++ (a, e) ∷ []) (rem_at m δ (position m k s)) j) (sym (state-position m k s b))
-          (subst (λ j. Ends m f n (h ++ (a, e) ∷ []) (rem δ j) s) (sym (point-position m k s b))
+          subst (λ j. Ends m f n (h ++ (a, e) ∷ []) (rem_at m δ (position m k s)) j) (sym (state_position m k s b))
+          (subst (λ j. Ends m f n (h ++ (a, e) ∷ []) (rem δ j) s) (sym (point_position m k s b))
           (subst (λ j. Ends m f n (h ++ (a, e) ∷ []) j s) r ends₁)) in
           (position m k s, l, ends_within m law δ one f n (h ++ (a, e) ∷ []) (position m k s) ends₂),
     )
@@ -178,8 +178,8 @@ within_ends m law live δ (suc n) p (inr (a, u, k)) =
           let (b, _) = and_parts (next_by m δ p a j) (goes_on δ (m.holds s) j) z in
           let below = law.after_below (state_of m p) a e y in
           let ends : Ends m (way_of m δ n q v) n [] (rem δ j) s =
-          subst (λ i. Ends m (way_of m δ n q v) n [] (rem δ j) i) (ap (state_of m) (sym po) ∙ state-position m j s below)
-          (subst (λ i. Ends m (way_of m δ n q v) n [] (rem δ i) (state_of m q)) (ap (point_of m) (sym po) ∙ point-position m j s below)
+          subst (λ i. Ends m (way_of m δ n q v) n [] (rem δ j) i) (ap (state_of m) (sym po) ∙ state_position m j s below)
+          (subst (λ i. Ends m (way_of m δ n q v) n [] (rem δ i) (state_of m q)) (ap (point_of m) (sym po) ∙ point_position m j s below)
           (within_ends m law live δ n q v)) in (
             rem δ j,
             s,

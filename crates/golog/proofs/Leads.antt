@@ -9,8 +9,8 @@ use Rattle.golog.specs.Positions.{position, point_of, state_of, facts_at, next_b
 use Rattle.golog.specs.Positions.Lead.{to}
 use Rattle.golog.proofs.Bridge.{bridge, next_in}
 use Rattle.golog.proofs.Searches.{lowest_some}
-use Rattle.golog.proofs.Numbers.{lead_found, lead-in}
-use Rattle.golog.proofs.Choosing.{one_remainder, point-position, state-position, step_goes_on, lead_goes}
+use Rattle.golog.proofs.Numbers.{lead_found, lead_in}
+use Rattle.golog.proofs.Choosing.{one_remainder, point_position, state_position, step_goes_on, lead_goes}
 use Rattle.golog.proofs.PlainJob.{lead_trans}
 
 -- a point that does not go on has a stuck remainder
@@ -27,12 +27,12 @@ lead_goes_on m law δ p a e q x l =
     let (_, z, _) = lowest_some (points δ) t j lo in
     let (_, g) = and_parts (next_by m δ p a j) (goes_on δ (m.holds s) j) z in
     let below = law.after_below (state_of m p) a e x in
-    subst (λ i. goes_on δ (m.holds (state_of m q)) i ≡ true) (sym (ap (point_of m) (sym po) ∙ point-position m j s below))
-    (subst (λ i. goes_on δ (m.holds i) j ≡ true) (sym (ap (state_of m) (sym po) ∙ state-position m j s below)) g)
+    subst (λ i. goes_on δ (m.holds (state_of m q)) i ≡ true) (sym (ap (point_of m) (sym po) ∙ point_position m j s below))
+    (subst (λ i. goes_on δ (m.holds i) j ≡ true) (sym (ap (state_of m) (sym po) ∙ state_position m j s below)) g)
 
 pub lead_is_trans : LeadIsTrans
 lead_is_trans m law δ one p a e x = (
-  λ q l. (lead-in m law δ p a e q x l, lead_trans m law δ p a e q x l, lead_goes_on m law δ p a e q x l),
+  λ q l. (lead_in m law δ p a e q x l, lead_trans m law δ p a e q x l, lead_goes_on m law δ p a e q x l),
   λ δ' s' (t, _, es).
       let v : Valuation = facts_at m p in
       let s : ℕ = m.after (state_of m p) a e in
@@ -46,9 +46,9 @@ lead_is_trans m law δ one p a e x = (
             inl (
               position m k s,
               l,
-              ap (rem δ) (point-position m k s below)
+              ap (rem δ) (point_position m k s below)
                   ∙ (sym (one_remainder δ one v (m.holds s) (point_of m p) q k n nk (w ∙ sym (eqb-true (word δ k) a wk)) g gk) ∙ r),
-              state-position m k s below ∙ sym es,
+              state_position m k s below ∙ sym es,
             )
         | inr g ↦ inr (subst (λ i. Stuck δ' (m.holds i)) (sym es) (subst (λ i. Stuck i (m.holds s)) r (stuck δ (m.holds s) q g)))
       ],

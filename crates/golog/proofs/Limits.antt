@@ -314,48 +314,48 @@ module _ (N : Names) (text : List ℕ) where
   Says (refused (unknown o)) = Unit {0}
   Says (refused (over_limit o)) = Over o
 
-  at-end : (s : State) → Bounded (text_words text) → Says (finish (length text) s)
-  at-end (want K A) b = tt
-  at-end (have [] A p) b = b
-  at-end (have (x ∷ K) A p) b = tt
-  at-end (want_cond K A B L O) b = tt
-  at-end (have_cond K A B L O c) b = tt
+  at_end : (s : State) → Bounded (text_words text) → Says (finish (length text) s)
+  at_end (want K A) b = tt
+  at_end (have [] A p) b = b
+  at_end (have (x ∷ K) A p) b = tt
+  at_end (want_cond K A B L O) b = tt
+  at_end (have_cond K A B L O c) b = tt
 
-  at-limit : (b : Bool) (x : Reading) (o : ℕ) → (b ≡ true → Says x) → (b ≡ false → Over o) → Says (elim b [ true ↦ x | false ↦ refused (over_limit o) ])
-  at-limit true x o f g = f refl
-  at-limit false x o f g = g refl
+  at_limit : (b : Bool) (x : Reading) (o : ℕ) → (b ≡ true → Says x) → (b ≡ false → Over o) → Says (elim b [ true ↦ x | false ↦ refused (over_limit o) ])
+  at_limit true x o f g = f refl
+  at_limit false x o f g = g refl
 
-  at-word :
+  at_word :
       (ws : List Word) (o n k : ℕ) (f : ℕ → ℕ → State → Reading) (y : Advance) → CountedAfter ws n k y →
       ((j : ℕ) (q : State) → moved y ≡ some q → Counted ws (suc n) j q → Within ws → Says (f (suc n) j q)) →
       ((q : State) → moved y ≡ some q → Passed ws → Over o) → Says (after_word o n k f y)
-  at-word ws o n k f (goes q) c go stop =
-      at-limit (in_limits (suc n) k q) (f (suc n) k q) o (λ e. go k q refl c (within ws (suc n) k q c e)) (λ e. stop q refl (passed ws (suc n) k q c e))
-  at-word ws o n k f (goes_by_act q) c go stop =
-      at-limit (in_limits (suc n) (suc k) q) (f (suc n) (suc k) q) o (λ e. go (suc k) q refl c (within ws (suc n) (suc k) q c e))
+  at_word ws o n k f (goes q) c go stop =
+      at_limit (in_limits (suc n) k q) (f (suc n) k q) o (λ e. go k q refl c (within ws (suc n) k q c e)) (λ e. stop q refl (passed ws (suc n) k q c e))
+  at_word ws o n k f (goes_by_act q) c go stop =
+      at_limit (in_limits (suc n) (suc k) q) (f (suc n) (suc k) q) o (λ e. go (suc k) q refl c (within ws (suc n) (suc k) q c e))
       (λ e. stop q refl (passed ws (suc n) (suc k) q c e))
-  at-word ws o n k f misfit c go stop = tt
-  at-word ws o n k f unfamiliar c go stop = tt
+  at_word ws o n k f misfit c go stop = tt
+  at_word ws o n k f unfamiliar c go stop = tt
 
   says :
       (us ts : List Token) (n k : ℕ) (s : State) → tokens text ≡ ts ++ us → Runs N start (words_of ts) s →
       Counted (words_of ts) n k s → Bounded (words_of ts) → Says (read_on N (length text) us n k s)
-  says [] ts n k s e r c b = at-end s (subst (λ i. Bounded (words_of i)) (sym (e ∙ append-nil ts)) b)
+  says [] ts n k s e r c b = at_end s (subst (λ i. Bounded (words_of i)) (sym (e ∙ append-nil ts)) b)
   says (x ∷ us) ts n k s e r c b =
       let ws : List Word = words_of ts in
       let more = sym (words_append ts (x ∷ [])) in
-      at-word (ws ++ x.word ∷ []) x.offset n k (read_on N (length text) us) (advance N s x.word)
+      at_word (ws ++ x.word ∷ []) x.offset n k (read_on N (length text) us) (advance N s x.word)
       (counted_after ws x.word n k s (advance N s x.word) c (counts N s x.word))
       (λ j q m d w.
       says us (ts ++ x ∷ []) (suc n) j q (e ∙ sym (append_assoc ts (x ∷ []) us)) (one_further N text ts x s q r m)
       (subst (λ i. Counted i (suc n) j q) more d) (subst Bounded more (bounded_more ws x.word b w)))
       (λ q m p. (ws, x.word, (ts, us, e, refl), runs_begin N (ws ++ x.word ∷ []) q (runs_on r (move m stay)), b, p))
 
-  read-says : Says (read N text)
-  read-says = says (tokens text) [] 0 0 start refl stay (refl, refl, refl, refl) bounded_nothing
+  read_says : Says (read N text)
+  read_says = says (tokens text) [] 0 0 start refl stay (refl, refl, refl, refl) bounded_nothing
 
 pub over_limit_is_first : OverLimitIsFirst
-over_limit_is_first N text o e = subst (Says N text) e (read-says N text)
+over_limit_is_first N text o e = subst (Says N text) e (read_says N text)
 
 pub bounded_is_read : BoundedIsRead
 bounded_is_read N text t x b =
@@ -369,4 +369,4 @@ bounded_is_read N text t x b =
     ]
 
 pub read_is_bounded : ReadIsBounded
-read_is_bounded N text t e = let (a, b, c) = tree_bound N text t e in (a, b, c, subst (Says N text) e (read-says N text))
+read_is_bounded N text t e = let (a, b, c) = tree_bound N text t e in (a, b, c, subst (Says N text) e (read_says N text))

@@ -51,47 +51,47 @@ fact_more K A B L O none y h r e = absurd (none_some e)
 fact_more K A B L O (some i) y h r e = subst (λ z. moved (fact_word K A B L O z) ≡ some r) (sym (h i refl)) e
 
 module _ (N M : Names) (facts-more : More N.facts M.facts) (acts_more : More N.acts M.acts) where
-  advance-more : (s : State) (w : Word) (r : State) → moved (advance N s w) ≡ some r → moved (advance M s w) ≡ some r
-  advance-more (want K A) (name w) r e = act_more K A (number_of N.acts w) (number_of M.acts w) (acts_more w) r e
-  advance-more (want K A) open_round r e = e
-  advance-more (want K A) close_round r e = e
-  advance-more (want K A) (begins b) r e = e
-  advance-more (want K A) (behind b) r e = e
-  advance-more (want K A) (cond_begins b) r e = e
-  advance-more (want K A) (cond_behind b) r e = e
-  advance-more (want K A) strange r e = e
-  advance-more (have K A p) (name w) r e = e
-  advance-more (have K A p) open_round r e = e
-  advance-more (have K A p) close_round r e = e
-  advance-more (have K A p) (begins b) r e = e
-  advance-more (have K A p) (behind b) r e = e
-  advance-more (have K A p) (cond_begins b) r e = e
-  advance-more (have K A p) (cond_behind b) r e = e
-  advance-more (have K A p) strange r e = e
-  advance-more (want_cond K A B L O) (name w) r e =
+  advance_more : (s : State) (w : Word) (r : State) → moved (advance N s w) ≡ some r → moved (advance M s w) ≡ some r
+  advance_more (want K A) (name w) r e = act_more K A (number_of N.acts w) (number_of M.acts w) (acts_more w) r e
+  advance_more (want K A) open_round r e = e
+  advance_more (want K A) close_round r e = e
+  advance_more (want K A) (begins b) r e = e
+  advance_more (want K A) (behind b) r e = e
+  advance_more (want K A) (cond_begins b) r e = e
+  advance_more (want K A) (cond_behind b) r e = e
+  advance_more (want K A) strange r e = e
+  advance_more (have K A p) (name w) r e = e
+  advance_more (have K A p) open_round r e = e
+  advance_more (have K A p) close_round r e = e
+  advance_more (have K A p) (begins b) r e = e
+  advance_more (have K A p) (behind b) r e = e
+  advance_more (have K A p) (cond_begins b) r e = e
+  advance_more (have K A p) (cond_behind b) r e = e
+  advance_more (have K A p) strange r e = e
+  advance_more (want_cond K A B L O) (name w) r e =
       fact_more K A B L O (number_of N.facts w) (number_of M.facts w) (facts-more w) r e
-  advance-more (want_cond K A B L O) open_round r e = e
-  advance-more (want_cond K A B L O) close_round r e = e
-  advance-more (want_cond K A B L O) (begins b) r e = e
-  advance-more (want_cond K A B L O) (behind b) r e = e
-  advance-more (want_cond K A B L O) (cond_begins b) r e = e
-  advance-more (want_cond K A B L O) (cond_behind b) r e = e
-  advance-more (want_cond K A B L O) strange r e = e
-  advance-more (have_cond K A B L O c) (name w) r e = e
-  advance-more (have_cond K A B L O c) open_round r e = e
-  advance-more (have_cond K A B L O c) close_round r e = e
-  advance-more (have_cond K A B L O c) (begins b) r e = e
-  advance-more (have_cond K A B L O c) (behind b) r e = e
-  advance-more (have_cond K A B L O c) (cond_begins b) r e = e
-  advance-more (have_cond K A B L O c) (cond_behind b) r e = e
-  advance-more (have_cond K A B L O c) strange r e = e
+  advance_more (want_cond K A B L O) open_round r e = e
+  advance_more (want_cond K A B L O) close_round r e = e
+  advance_more (want_cond K A B L O) (begins b) r e = e
+  advance_more (want_cond K A B L O) (behind b) r e = e
+  advance_more (want_cond K A B L O) (cond_begins b) r e = e
+  advance_more (want_cond K A B L O) (cond_behind b) r e = e
+  advance_more (want_cond K A B L O) strange r e = e
+  advance_more (have_cond K A B L O c) (name w) r e = e
+  advance_more (have_cond K A B L O c) open_round r e = e
+  advance_more (have_cond K A B L O c) close_round r e = e
+  advance_more (have_cond K A B L O c) (begins b) r e = e
+  advance_more (have_cond K A B L O c) (behind b) r e = e
+  advance_more (have_cond K A B L O c) (cond_begins b) r e = e
+  advance_more (have_cond K A B L O c) (cond_behind b) r e = e
+  advance_more (have_cond K A B L O c) strange r e = e
 
-  pub runs-more : {s r : State} {ws : List Word} → Runs N s ws r → Runs M s ws r
-  runs-more stay = stay
-  runs-more (move {s = s} {r = q} {w = w} e x) = move (advance-more s w q e) (runs-more x)
+  pub runs_more : {s r : State} {ws : List Word} → Runs N s ws r → Runs M s ws r
+  runs_more stay = stay
+  runs_more (move {s = s} {r = q} {w = w} e x) = move (advance_more s w q e) (runs_more x)
 
 pub runs_with_act : (N : Names) (w : List ℕ) {s r : State} {ws : List Word} → Runs N s ws r → Runs (with_act N w) s ws r
-runs_with_act N w x = runs-more N (with_act N w) (λ u i e. e) (one_more N.acts w) x
+runs_with_act N w x = runs_more N (with_act N w) (λ u i e. e) (one_more N.acts w) x
 
 pub runs_with_fact : (N : Names) (w : List ℕ) {s r : State} {ws : List Word} → Runs N s ws r → Runs (with_fact N w) s ws r
-runs_with_fact N w x = runs-more N (with_fact N w) (one_more N.facts w) (λ u i e. e) x
+runs_with_fact N w x = runs_more N (with_fact N w) (one_more N.facts w) (λ u i e. e) x

@@ -18,16 +18,16 @@ lead_found m s none q e = let z : ◌≡◌ {A = ℕ} 0 1 = cc in absurd (omega 
 lead_found m s (some k) q e = (k, refl, cc)
 
 module _ (m : Meaning) (law : Lawful m) (δ : Prog) where
-  pub lead-in : (p a e q : ℕ) → m.possible (state_of m p) a e ≡ true → lead m δ p a e ≡ to q → q < positions m δ
-  lead-in p a e q h f =
+  pub lead_in : (p a e q : ℕ) → m.possible (state_of m p) a e ≡ true → lead m δ p a e ≡ to q → q < positions m δ
+  lead_in p a e q h f =
       let s : ℕ = m.after (state_of m p) a e in
       let t : ℕ → Bool = λ k. next_by m δ p a k && goes_on δ (m.holds s) k in
       let (k, x, y) = lead_found m s (lowest (points δ) t) q f in
       let (l, _, _) = lowest_some (points δ) t k x in
       subst (λ j. j < positions m δ) y (digits_lt l (law.after_below (state_of m p) a e h))
 
-  pub usable-acts : (p a : ℕ) → usable m δ p a ≡ true → a < m.acts
-  usable-acts p a h = (law.allowed_within (state_of m p) a (and_parts (m.allowed (state_of m p) a) (any_below (points δ) (next_by m δ p a)) h).0).1
+  pub usable_acts : (p a : ℕ) → usable m δ p a ≡ true → a < m.acts
+  usable_acts p a h = (law.allowed_within (state_of m p) a (and_parts (m.allowed (state_of m p) a) (any_below (points δ) (next_by m δ p a)) h).0).1
 
 -- within more steps
 pub within_more : (m : Meaning) (δ : Prog) (n p : ℕ) → Within m δ n p → Within m δ (suc n) p
@@ -73,7 +73,7 @@ surely_parts m δ N n p a law h =
             | inl y ↦ absurd (both_ways (m.possible (state_of m p) a e) (not-true (m.possible (state_of m p) a e) y) x)
             | inr y ↦
                 let (q, l, b) = below_found m δ N n (lead m δ p a e) y in
-                let k = lead-in m law δ p a e q x l in
+                let k = lead_in m law δ p a e q x l in
                 (q, l, k, subst (λ j. j < n) (number_in m δ N q k) b)
           ],
     )
@@ -87,7 +87,7 @@ surely_from m δ N n p a law u h =
     elim (cases_Bool (m.possible (state_of m p) a e)) [
       | inl x ↦
           let (q, l, b) = h e x in
-          let c : number_at m δ N q < n = subst (λ j. j < n) (sym (number_in m δ N q (lead-in m law δ p a e q x l))) b in
+          let c : number_at m δ N q < n = subst (λ j. j < n) (sym (number_in m δ N q (lead_in m law δ p a e q x l))) b in
           or_right (not (m.possible (state_of m p) a e)) (lead_below m δ N n (lead m δ p a e))
           (subst (λ y. lead_below m δ N n y ≡ true) (sym l) (lt-ltb (number_at m δ N q) n c))
       | inr x ↦ or_left (not (m.possible (state_of m p) a e)) (lead_below m δ N n (lead m δ p a e)) (not_from_false (m.possible (state_of m p) a e) x)
@@ -111,8 +111,8 @@ module _ (m : Meaning) (law : Lawful m) (δ : Prog) where
       ap g e
 
   -- a row stays
-  at-stays : (n p : ℕ) → p < positions m δ → (at m δ n p ≡ no_number → ⊥) → at m δ (suc n) p ≡ at m δ n p
-  at-stays n p h f = at_suc n p h ∙ by_cases (suc n) (numbers_to m δ n) p false (ne_eqb (at m δ n p) no_number f)
+  at_stays : (n p : ℕ) → p < positions m δ → (at m δ n p ≡ no_number → ⊥) → at m δ (suc n) p ≡ at m δ n p
+  at_stays n p h f = at_suc n p h ∙ by_cases (suc n) (numbers_to m δ n) p false (ne_eqb (at m δ n p) no_number f)
 
   at_new : (n p : ℕ) → p < positions m δ → at m δ n p ≡ no_number →
       at m δ (suc n) p ≡ cond (any_below m.acts (surely_below m δ (numbers_to m δ n) (suc n) p)) (suc n) no_number
@@ -135,33 +135,33 @@ module _ (m : Meaning) (law : Lawful m) (δ : Prog) where
             ]
         | inr x ↦
             elim (at_bound n p h) [
-              | inl y ↦ let e = at-stays n p h x in inl (omega arith)
+              | inl y ↦ let e = at_stays n p h x in inl (omega arith)
               | inr y ↦ absurd (x y)
             ]
       ]
 
   -- within n there is a row after n rounds
-  within-row : (n p : ℕ) → n < no_number → p < positions m δ → Within m δ n p → at m δ n p ≤ n
-  within-row zero p l h w = let e = at_zero p h ∙ cond-true (may_stop m δ p) 0 no_number w in omega arith
-  within-row (suc n) p l h w =
+  within_row : (n p : ℕ) → n < no_number → p < positions m δ → Within m δ n p → at m δ n p ≤ n
+  within_row zero p l h w = let e = at_zero p h ∙ cond-true (may_stop m δ p) 0 no_number w in omega arith
+  within_row (suc n) p l h w =
       elim (cases_eq (at m δ n p) no_number) [
         | inr x ↦
             elim (at_bound n p h) [
-              | inl y ↦ let e = at-stays n p h x in omega arith
+              | inl y ↦ let e = at_stays n p h x in omega arith
               | inr y ↦ absurd (x y)
             ]
         | inl x ↦
             elim w [
-              | inl y ↦ let z = within-row n p (omega arith) h (within_stop m δ n p y) in absurd (omega arith)
+              | inl y ↦ let z = within_row n p (omega arith) h (within_stop m δ n p y) in absurd (omega arith)
               | inr (a, u, k) ↦
                   let t : ℕ → Bool = surely_below m δ (numbers_to m δ n) (suc n) p in
                   let s : surely_below m δ (numbers_to m δ n) (suc n) p a ≡ true =
                   surely_from m δ (numbers_to m δ n) (suc n) p a law u
                   (λ e y.
                   let (q, f, v) = k e y in
-                  let z = within-row n q (omega arith) (lead-in m law δ p a e q y f) v in
+                  let z = within_row n q (omega arith) (lead_in m law δ p a e q y f) v in
                   (q, f, omega arith)) in
-                  let e = at_new n p h x ∙ cond-true (any_below m.acts t) (suc n) no_number (any_from m.acts t a (usable-acts m law δ p a u) s) in
+                  let e = at_new n p h x ∙ cond-true (any_below m.acts t) (suc n) no_number (any_from m.acts t a (usable_acts m law δ p a u) s) in
                   omega arith
             ]
       ]
@@ -179,7 +179,7 @@ module _ (m : Meaning) (law : Lawful m) (δ : Prog) where
   row_within (suc n) p l h r =
       elim (cases_eq (at m δ n p) no_number) [
         | inr x ↦
-            let e = at-stays n p h x in
+            let e = at_stays n p h x in
             let (v, f) = row_within n p (omega arith) h (omega arith) in
             (subst (λ j. Within m δ j p) (sym e) v, λ k w. let z = f k w in omega arith)
         | inl x ↦
@@ -203,31 +203,31 @@ module _ (m : Meaning) (law : Lawful m) (δ : Prog) where
                     λ j v.
                         elim (cases_lt n j) [
                           | inl c ↦ omega arith
-                          | inr c ↦ let d = within-row n p (omega arith) h (within_le m δ j n p c v) in absurd (omega arith)
+                          | inr c ↦ let d = within_row n p (omega arith) h (within_le m δ j n p c v) in absurd (omega arith)
                         ],
                   )
             ]
       ]
 
   -- a row stays for ever
-  at-keeps : (d r p k : ℕ) → k ≡ d + r → p < positions m δ → at m δ r p < no_number → at m δ k p ≡ at m δ r p
-  at-keeps zero r p k e h l = ap (λ j. at m δ j p) (omega arith)
-  at-keeps (suc d) r p zero e h l = absurd (omega arith)
-  at-keeps (suc d) r p (suc k) e h l =
-      let f = at-keeps d r p k (omega arith) h l in
-      at-stays k p h (λ g. omega arith) ∙ f
+  at_keeps : (d r p k : ℕ) → k ≡ d + r → p < positions m δ → at m δ r p < no_number → at m δ k p ≡ at m δ r p
+  at_keeps zero r p k e h l = ap (λ j. at m δ j p) (omega arith)
+  at_keeps (suc d) r p zero e h l = absurd (omega arith)
+  at_keeps (suc d) r p (suc k) e h l =
+      let f = at_keeps d r p k (omega arith) h l in
+      at_stays k p h (λ g. omega arith) ∙ f
 
   -- a round that adds no row
   Still : ℕ → Type 0
   Still n = (p : ℕ) → p < positions m δ → at m δ (suc n) p ≡ at m δ n p
 
   -- after a round that adds no row, every position from which one can surely come to stop has one
-  still-closed : (n : ℕ) → suc n < no_number → Still n → (k p : ℕ) → p < positions m δ → Within m δ k p → at m δ n p < no_number
+  still_closed : (n : ℕ) → suc n < no_number → Still n → (k p : ℕ) → p < positions m δ → Within m δ k p → at m δ n p < no_number
   unfolding Still
-  still-closed n l s zero p h w = let z = within-row n p (omega arith) h (within_stop m δ n p w) in omega arith
-  still-closed n l s (suc k) p h w =
+  still_closed n l s zero p h w = let z = within_row n p (omega arith) h (within_stop m δ n p w) in omega arith
+  still_closed n l s (suc k) p h w =
       elim w [
-        | inl x ↦ let z = within-row n p (omega arith) h (within_stop m δ n p x) in omega arith
+        | inl x ↦ let z = within_row n p (omega arith) h (within_stop m δ n p x) in omega arith
         | inr (a, u, f) ↦
             elim (cases_eq (at m δ n p) no_number) [
               | inr x ↦ elim (at_bound n p h) [ inl y ↦ omega arith | inr y ↦ absurd (x y) ]
@@ -237,10 +237,10 @@ module _ (m : Meaning) (law : Lawful m) (δ : Prog) where
                   surely_from m δ (numbers_to m δ n) (suc n) p a law u
                   (λ e y.
                   let (q, g, v) = f e y in
-                  let i = lead-in m law δ p a e q y g in
-                  let z = still-closed n l s k q i v in
+                  let i = lead_in m law δ p a e q y g in
+                  let z = still_closed n l s k q i v in
                   (q, g, elim (at_bound n q i) [ inl c ↦ omega arith | inr c ↦ absurd (omega arith) ])) in
-                  let e = at_new n p h x ∙ cond-true (any_below m.acts t) (suc n) no_number (any_from m.acts t a (usable-acts m law δ p a u) b) in
+                  let e = at_new n p h x ∙ cond-true (any_below m.acts t) (suc n) no_number (any_from m.acts t a (usable_acts m law δ p a u) b) in
                   let g = s p h in
                   absurd (omega arith)
             ]
@@ -323,18 +323,18 @@ module _ (m : Meaning) (law : Lawful m) (δ : Prog) where
   rows : ℕ → ℕ
   rows n = row_count (numbers_to m δ n)
 
-  rows-table : (n : ℕ) → rows n ≡ row_count (table-from 0 (positions m δ) (at m δ n))
+  rows_table : (n : ℕ) → rows n ≡ row_count (table-from 0 (positions m δ) (at m δ n))
   unfolding rows
-  rows-table zero =
+  rows_table zero =
       ap row_count
       (table-from-same 0 (positions m δ) (λ q. cond (may_stop m δ q) 0 no_number) (at m δ 0) (λ p a b. sym (at_zero m law δ p (omega arith))))
-  rows-table (suc n) =
+  rows_table (suc n) =
       ap row_count
       (table-from-same 0 (positions m δ) (numbered_by m δ (suc n) (numbers_to m δ n)) (at m δ (suc n)) (λ p a b. sym (at_suc m law δ n p (omega arith))))
 
   rows_bound : (n : ℕ) → rows n ≤ positions m δ
   rows_bound n =
-      let e = rows-table n in
+      let e = rows_table n in
       let b = row_count_bound (table-from 0 (positions m δ) (at m δ n)) in
       let l = length-table (positions m δ) (at m δ n) in
       omega arith
@@ -344,35 +344,35 @@ module _ (m : Meaning) (law : Lawful m) (δ : Prog) where
   unfolding Still
   progress n =
       elim (more_rows 0 (positions m δ) (at m δ n) (at m δ (suc n))
-      (λ p a b. elim (cases_eq (at m δ n p) no_number) [ inl x ↦ inl x | inr x ↦ inr (at-stays m law δ n p (omega arith) x) ])) [
+      (λ p a b. elim (cases_eq (at m δ n p) no_number) [ inl x ↦ inl x | inr x ↦ inr (at_stays m law δ n p (omega arith) x) ])) [
         | inl (s, c) ↦ inl (λ p h. s p (omega arith) (omega arith))
-        | inr c ↦ let d = rows-table n in let e = rows-table (suc n) in inr (omega arith)
+        | inr c ↦ let d = rows_table n in let e = rows_table (suc n) in inr (omega arith)
       ]
 
   -- before n rounds one added none, or each added a row
-  search-still : (n : ℕ) → ((r : ℕ) × (r < n) × Still m law δ r) ⊎ (n + rows 0 ≤ rows n)
-  search-still zero = inr (omega arith)
-  search-still (suc n) =
-      elim (search-still n) [
+  search_still : (n : ℕ) → ((r : ℕ) × (r < n) × Still m law δ r) ⊎ (n + rows 0 ≤ rows n)
+  search_still zero = inr (omega arith)
+  search_still (suc n) =
+      elim (search_still n) [
         | inl (r, l, s) ↦ inl (r, omega arith, s)
         | inr x ↦ elim (progress n) [ inl s ↦ inl (n, omega arith, s) | inr y ↦ inr (omega arith) ]
       ]
 
   -- if each allowed act has a reaction, one comes to stop somewhere
-  some-stop : Live m → (n p : ℕ) → p < positions m δ → Within m δ n p → (q : ℕ) × (q < positions m δ) × (may_stop m δ q ≡ true)
-  some-stop live zero p h w = (p, h, w)
-  some-stop live (suc n) p h (inl w) = (p, h, w)
-  some-stop live (suc n) p h (inr (a, u, k)) =
+  some_stop : Live m → (n p : ℕ) → p < positions m δ → Within m δ n p → (q : ℕ) × (q < positions m δ) × (may_stop m δ q ≡ true)
+  some_stop live zero p h w = (p, h, w)
+  some_stop live (suc n) p h (inl w) = (p, h, w)
+  some_stop live (suc n) p h (inr (a, u, k)) =
       let al = (and_parts (m.allowed (state_of m p) a) (any_below (points δ) (next_by m δ p a)) u).0 in
       let (e, _, x) = any_found reactions (m.possible (state_of m p) a) (live (state_of m p) a al) in
       let (q, l, w) = k e x in
-      some-stop live n q (lead-in m law δ p a e q x l) w
+      some_stop live n q (lead_in m law δ p a e q x l) w
 
-  stop-row : (q : ℕ) → q < positions m δ → may_stop m δ q ≡ true → 1 ≤ rows 0
-  stop-row q h s =
+  stop_row : (q : ℕ) → q < positions m δ → may_stop m δ q ≡ true → 1 ≤ rows 0
+  stop_row q h s =
       let e = at_zero m law δ q h ∙ cond-true (may_stop m δ q) 0 no_number s in
       let r = row_count_some 0 (positions m δ) (at m δ 0) q (omega arith) (omega arith) (λ x. omega arith) in
-      let d = rows-table 0 in
+      let d = rows_table 0 in
       omega arith
 
   -- a number is below the count of positions
@@ -381,15 +381,15 @@ module _ (m : Meaning) (law : Lawful m) (δ : Prog) where
   number_below few live p h l =
       let n : ℕ = at m δ (positions m δ) p in
       let (w, least) = row_within m law δ (positions m δ) p (omega arith) h l in
-      let (q, i, s) = some-stop live n p h w in
-      let one = stop-row q i s in
+      let (q, i, s) = some_stop live n p h w in
+      let one = stop_row q i s in
       let b = rows_bound n in
-      elim (search-still n) [
+      elim (search_still n) [
         | inr x ↦ omega arith
         | inl (r, k, s) ↦
             let c : n ≤ positions m δ = elim (at_bound m law δ (positions m δ) p h) [ inl y ↦ y | inr y ↦ absurd (omega arith) ] in
-            let z = still-closed m law δ r (omega arith) s n p h w in
-            let e = at-keeps m law δ (positions m δ - r) r p (positions m δ) (omega arith) h z in
+            let z = still_closed m law δ r (omega arith) s n p h w in
+            let e = at_keeps m law δ (positions m δ - r) r p (positions m δ) (omega arith) h z in
             elim (at_bound m law δ r p h) [ inl y ↦ absurd (omega arith) | inr y ↦ absurd (omega arith) ]
       ]
 
@@ -405,11 +405,11 @@ numbers_are_least m law δ few p h =
           inr (
             x,
             λ k w.
-                elim (search-still m law δ (suc (positions m δ))) [
+                elim (search_still m law δ (suc (positions m δ))) [
                   | inr y ↦ let z = rows_bound m law δ (suc (positions m δ)) in omega arith
                   | inl (r, l, s) ↦
-                      let z = still-closed m law δ r (omega arith) s k p h w in
-                      let e = at-keeps m law δ (positions m δ - r) r p (positions m δ) (omega arith) h z in
+                      let z = still_closed m law δ r (omega arith) s k p h w in
+                      let e = at_keeps m law δ (positions m δ - r) r p (positions m δ) (omega arith) h z in
                       omega arith
                 ],
           )

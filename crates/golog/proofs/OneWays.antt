@@ -19,34 +19,34 @@ abbrev pub Agree : ℕ → Valuation → Valuation → Type 0
 Agree n v w = (i : ℕ) → i < n → v i ≡ w i
 
 module _ (n : ℕ) (v w : Valuation) (h : Agree n v w) where
-  eval-agree : (c : Cond) → cond_names_below n c ≡ true → eval c v ≡ eval c w
-  eval-agree always k = refl
-  eval-agree never k = refl
-  eval-agree (fact i) k = h i (ltb-true i n k)
-  eval-agree (negated c) k = ap not (eval-agree c k)
-  eval-agree (both c d) k =
-      let (a, b) = and_parts (cond_names_below n c) (cond_names_below n d) k in ap₂ ◌&&◌ (eval-agree c a) (eval-agree d b)
-  eval-agree (any c d) k =
-      let (a, b) = and_parts (cond_names_below n c) (cond_names_below n d) k in ap₂ ◌||◌ (eval-agree c a) (eval-agree d b)
+  eval_agree : (c : Cond) → cond_names_below n c ≡ true → eval c v ≡ eval c w
+  eval_agree always k = refl
+  eval_agree never k = refl
+  eval_agree (fact i) k = h i (ltb-true i n k)
+  eval_agree (negated c) k = ap not (eval_agree c k)
+  eval_agree (both c d) k =
+      let (a, b) = and_parts (cond_names_below n c) (cond_names_below n d) k in ap₂ ◌&&◌ (eval_agree c a) (eval_agree d b)
+  eval_agree (any c d) k =
+      let (a, b) = and_parts (cond_names_below n c) (cond_names_below n d) k in ap₂ ◌||◌ (eval_agree c a) (eval_agree d b)
 
-  pub final-agree : (p : Prog) → names_below n p ≡ true → Final p v ≡ Final p w
-  final-agree (act a) k = refl
-  final-agree (test c) k = eval-agree c k
-  final-agree (seq p q) k =
-      let (a, b) = and_parts (names_below n p) (names_below n q) k in ap₂ ◌&&◌ (final-agree p a) (final-agree q b)
-  final-agree (alt p q) k =
-      let (a, b) = and_parts (names_below n p) (names_below n q) k in ap₂ ◌||◌ (final-agree p a) (final-agree q b)
-  final-agree (star p) k = refl
+  pub final_agree : (p : Prog) → names_below n p ≡ true → Final p v ≡ Final p w
+  final_agree (act a) k = refl
+  final_agree (test c) k = eval_agree c k
+  final_agree (seq p q) k =
+      let (a, b) = and_parts (names_below n p) (names_below n q) k in ap₂ ◌&&◌ (final_agree p a) (final_agree q b)
+  final_agree (alt p q) k =
+      let (a, b) = and_parts (names_below n p) (names_below n q) k in ap₂ ◌||◌ (final_agree p a) (final_agree q b)
+  final_agree (star p) k = refl
 
-  takes-agree : (p : Prog) (a : ℕ) → names_below n p ≡ true → takes p v a ≡ takes p w a
-  takes-agree (act b) a k = refl
-  takes-agree (test c) a k = refl
-  takes-agree (seq p q) a k =
+  takes_agree : (p : Prog) (a : ℕ) → names_below n p ≡ true → takes p v a ≡ takes p w a
+  takes_agree (act b) a k = refl
+  takes_agree (test c) a k = refl
+  takes_agree (seq p q) a k =
       let (x, y) = and_parts (names_below n p) (names_below n q) k in
-      ap₂ ◌||◌ (takes-agree p a x) (ap₂ ◌&&◌ (final-agree p x) (takes-agree q a y))
-  takes-agree (alt p q) a k =
-      let (x, y) = and_parts (names_below n p) (names_below n q) k in ap₂ ◌||◌ (takes-agree p a x) (takes-agree q a y)
-  takes-agree (star p) a k = takes-agree p a k
+      ap₂ ◌||◌ (takes_agree p a x) (ap₂ ◌&&◌ (final_agree p x) (takes_agree q a y))
+  takes_agree (alt p q) a k =
+      let (x, y) = and_parts (names_below n p) (names_below n q) k in ap₂ ◌||◌ (takes_agree p a x) (takes_agree q a y)
+  takes_agree (star p) a k = takes_agree p a k
 
 names_numbered : (n k : ℕ) (p : Prog) → names_below n (numbered_from k p) ≡ names_below n p
 names_numbered n k (act a) = refl
@@ -83,11 +83,11 @@ any_agree (suc n) t u h = ap₂ ◌||◌ (h n) (any_agree n t u h)
 
 module _ (n : ℕ) (v w : Valuation) (h : Agree n v w) (δ : Prog) (k : names_below n δ ≡ true) where
   pub next_agree : (p q : ℕ) → next δ v p q ≡ next δ w p q
-  next_agree p q = takes-agree n v w h (rem (numbered δ) p) q (names_rem n (numbered δ) p (names_numbered n 0 δ ∙ k))
+  next_agree p q = takes_agree n v w h (rem (numbered δ) p) q (names_rem n (numbered δ) p (names_numbered n 0 δ ∙ k))
 
-  pub goes-on-agree : (p : ℕ) → goes_on δ v p ≡ goes_on δ w p
-  goes-on-agree p =
-      ap₂ ◌||◌ (final-agree n v w h (rem δ p) (names_rem n δ p k)) (any_agree (points δ) (next δ v p) (next δ w p) (next_agree p))
+  pub goes_on_agree : (p : ℕ) → goes_on δ v p ≡ goes_on δ w p
+  goes_on_agree p =
+      ap₂ ◌||◌ (final_agree n v w h (rem δ p) (names_rem n δ p k)) (any_agree (points δ) (next δ v p) (next δ w p) (next_agree p))
 
 -- every valuation of so many facts is one of the numbered ones
 bit : Bool → ℕ
@@ -129,15 +129,15 @@ code_is (suc n) v (suc i) h = valuation_high (code (λ i. v (suc i)) n) (bit (v 
 
 -- the two parts of two ways, tried and meant
 module _ (facts : ℕ) (δ : Prog) (k : names_below facts δ ≡ true) where
-  together-means : (p q r : ℕ) → together facts δ p q r ≡ true → Together δ p q r
-  together-means p q r h =
+  together_means : (p q r : ℕ) → together facts δ p q r ≡ true → Together δ p q r
+  together_means p q r h =
       let (e, a) = and_parts (eqb (word δ q) (word δ r)) (any_below (2 ^ facts) (λ n. next δ (valuation n) p q && next δ (valuation n) p r)) h in
       let (n, _, b) = any_found (2 ^ facts) (λ n. next δ (valuation n) p q && next δ (valuation n) p r) a in
       let (x, y) = and_parts (next δ (valuation n) p q) (next δ (valuation n) p r) b in
       (valuation n, x, y, eqb-true (word δ q) (word δ r) e)
 
-  together-tried : (p q r : ℕ) → Together δ p q r → together facts δ p q r ≡ true
-  together-tried p q r (v, x, y, e) =
+  together_tried : (p q r : ℕ) → Together δ p q r → together facts δ p q r ≡ true
+  together_tried p q r (v, x, y, e) =
       let n : ℕ = code v facts in
       let g : Agree facts (valuation n) v = code_is facts v in
       and_from (eqb (word δ q) (word δ r)) (any_below (2 ^ facts) (λ n. next δ (valuation n) p q && next δ (valuation n) p r))
@@ -146,30 +146,30 @@ module _ (facts : ℕ) (δ : Prog) (k : names_below facts δ ≡ true) where
       (and_from (next δ (valuation n) p q) (next δ (valuation n) p r) (next_agree facts (valuation n) v g δ k p q ∙ x)
       (next_agree facts (valuation n) v g δ k p r ∙ y)))
 
-  go-on-means : (q r : ℕ) → go_on_together facts δ q r ≡ true → GoOnTogether δ q r
-  go-on-means q r h =
+  go_on_means : (q r : ℕ) → go_on_together facts δ q r ≡ true → GoOnTogether δ q r
+  go_on_means q r h =
       let (n, _, b) = any_found (2 ^ facts) (λ n. goes_on δ (valuation n) q && goes_on δ (valuation n) r) h in
       let (x, y) = and_parts (goes_on δ (valuation n) q) (goes_on δ (valuation n) r) b in
       (valuation n, x, y)
 
-  go-on-tried : (q r : ℕ) → GoOnTogether δ q r → go_on_together facts δ q r ≡ true
-  go-on-tried q r (v, x, y) =
+  go_on_tried : (q r : ℕ) → GoOnTogether δ q r → go_on_together facts δ q r ≡ true
+  go_on_tried q r (v, x, y) =
       let n : ℕ = code v facts in
       let g : Agree facts (valuation n) v = code_is facts v in
       any_from (2 ^ facts) (λ n. goes_on δ (valuation n) q && goes_on δ (valuation n) r) n (code_below v facts)
-      (and_from (goes_on δ (valuation n) q) (goes_on δ (valuation n) r) (goes-on-agree facts (valuation n) v g δ k q ∙ x)
-      (goes-on-agree facts (valuation n) v g δ k r ∙ y))
+      (and_from (goes_on δ (valuation n) q) (goes_on δ (valuation n) r) (goes_on_agree facts (valuation n) v g δ k q ∙ x)
+      (goes_on_agree facts (valuation n) v g δ k r ∙ y))
 
-  two-ways-means : (p q r : ℕ) → two_ways_at facts δ p q r ≡ true → (q < r) × Together δ p q r × GoOnTogether δ q r
-  two-ways-means p q r h =
+  two_ways_means : (p q r : ℕ) → two_ways_at facts δ p q r ≡ true → (q < r) × Together δ p q r × GoOnTogether δ q r
+  two_ways_means p q r h =
       let (a, b) = and_parts (ltb q r) (together facts δ p q r && go_on_together facts δ q r) h in
       let (c, d) = and_parts (together facts δ p q r) (go_on_together facts δ q r) b in
-      (ltb-true q r a, together-means p q r c, go-on-means q r d)
+      (ltb-true q r a, together_means p q r c, go_on_means q r d)
 
-  two-ways-tried : (p q r : ℕ) → q < r → Together δ p q r → GoOnTogether δ q r → two_ways_at facts δ p q r ≡ true
-  two-ways-tried p q r h x y =
+  two_ways_tried : (p q r : ℕ) → q < r → Together δ p q r → GoOnTogether δ q r → two_ways_at facts δ p q r ≡ true
+  two_ways_tried p q r h x y =
       and_from (ltb q r) (together facts δ p q r && go_on_together facts δ q r) (lt-ltb q r h)
-      (and_from (together facts δ p q r) (go_on_together facts δ q r) (together-tried p q r x) (go-on-tried q r y))
+      (and_from (together facts δ p q r) (go_on_together facts δ q r) (together_tried p q r x) (go_on_tried q r y))
 
 -- past the last point nothing is taken
 unfoldable pub Dead : Valuation → ℕ → Prog → Type 0
@@ -208,21 +208,21 @@ module _ (n p q r : ℕ) (a : q < n) (b : r < n) where
   unfoldable pub triple : ℕ
   triple = (p * n + q) * n + r
 
-  pub triple-below : p < n → triple < n * n * n
+  pub triple_below : p < n → triple < n * n * n
   unfolding triple
-  triple-below h = digits_lt (digits_lt h a) b
+  triple_below h = digits_lt (digits_lt h a) b
 
-  pub triple-outer : triple / (n * n) ≡ p
+  pub triple_outer : triple / (n * n) ≡ p
   unfolding triple
-  triple-outer = sym (div-div-eq-div-mul ((p * n + q) * n + r) n n) ∙ (ap (λ x. x / n) (digits_div (p * n + q) b) ∙ digits_div p a)
+  triple_outer = sym (div-div-eq-div-mul ((p * n + q) * n + r) n n) ∙ (ap (λ x. x / n) (digits_div (p * n + q) b) ∙ digits_div p a)
 
-  pub triple-middle : (triple / n) % n ≡ q
+  pub triple_middle : (triple / n) % n ≡ q
   unfolding triple
-  triple-middle = ap (λ x. x % n) (digits_div (p * n + q) b) ∙ digits_mod p a
+  triple_middle = ap (λ x. x % n) (digits_div (p * n + q) b) ∙ digits_mod p a
 
-  pub triple-inner : triple % n ≡ r
+  pub triple_inner : triple % n ≡ r
   unfolding triple
-  triple-inner = digits_mod (p * n + q) b
+  triple_inner = digits_mod (p * n + q) b
 
 -- the lowest triple has the lowest place
 place_lowest :
@@ -267,13 +267,13 @@ ways_is_one_way facts δ k = (
       let a : p < n = next_from δ x.0 p q x.1 in
       let b : q < n = next_in δ x.0 p q x.1 in
       let c : r < n = next_in δ x.0 p r x.2 in
-      both_ways (t (triple n p q r b c)) (f (triple n p q r b c) (triple-below n p q r b c a)) (at-triple p q r b c ∙ two-ways-tried facts δ k p q r h x y),
+      both_ways (t (triple n p q r b c)) (f (triple n p q r b c) (triple_below n p q r b c a)) (at_triple p q r b c ∙ two_ways_tried facts δ k p q r h x y),
   λ one.
       ap (ways_of n)
       (none_of (lowest (n * n * n) t)
       (λ j e.
       let (_, f, _) = lowest_some (n * n * n) t j e in
-      let (h, x, y) = two-ways-means facts δ k (j / (n * n)) ((j / n) % n) (j % n) f in
+      let (h, x, y) = two_ways_means facts δ k (j / (n * n)) ((j / n) % n) (j % n) f in
       one (j / (n * n)) ((j / n) % n) (j % n) h x y)),
   λ p q r e.
       let (j, f, dp, dq, dr) = ways_some n (lowest (n * n * n) t) p q r e in
@@ -281,7 +281,7 @@ ways_is_one_way facts δ k = (
       let s : two_ways_at facts δ p q r ≡ true =
       subst (λ i. two_ways_at facts δ p q i ≡ true) dr
       (subst (λ i. two_ways_at facts δ p i (j % n) ≡ true) dq (subst (λ i. two_ways_at facts δ i ((j / n) % n) (j % n) ≡ true) dp g)) in
-      let (h, x, y) = two-ways-means facts δ k p q r s in (
+      let (h, x, y) = two_ways_means facts δ k p q r s in (
         h,
         x,
         y,
@@ -292,7 +292,7 @@ ways_is_one_way facts δ k = (
             let u : j ≤ triple n p' q' r' b c =
             elim (cases_lt (triple n p' q' r' b c) j) [
               | inr l ↦ l
-              | inl l ↦ absurd (both_ways (t (triple n p' q' r' b c)) (least (triple n p' q' r' b c) l) (at-triple p' q' r' b c ∙ two-ways-tried facts δ k p' q' r' h' x' y'))
+              | inl l ↦ absurd (both_ways (t (triple n p' q' r' b c)) (least (triple n p' q' r' b c) l) (at_triple p' q' r' b c ∙ two_ways_tried facts δ k p' q' r' h' x' y'))
             ] in
             place_lowest n p q r p' q' r' (omega arith) (next_in δ x.0 p q x.1) (next_in δ x.0 p r x.2) b c
             (subst (λ i. i ≤ triple n p' q' r' b c) (again p q r j dp dq dr) u),
@@ -305,11 +305,11 @@ ways_is_one_way facts δ k = (
     t : ℕ → Bool
     t j = two_ways_at facts δ (j / (n * n)) ((j / n) % n) (j % n)
 
-    at-triple : (p q r : ℕ) (b : q < n) (c : r < n) → t (triple n p q r b c) ≡ two_ways_at facts δ p q r
-    at-triple p q r b c =
-        ap (λ i. two_ways_at facts δ i ((triple n p q r b c / n) % n) (triple n p q r b c % n)) (triple-outer n p q r b c)
-        ∙ (ap (λ i. two_ways_at facts δ p i (triple n p q r b c % n)) (triple-middle n p q r b c)
-        ∙ ap (λ i. two_ways_at facts δ p q i) (triple-inner n p q r b c))
+    at_triple : (p q r : ℕ) (b : q < n) (c : r < n) → t (triple n p q r b c) ≡ two_ways_at facts δ p q r
+    at_triple p q r b c =
+        ap (λ i. two_ways_at facts δ i ((triple n p q r b c / n) % n) (triple n p q r b c % n)) (triple_outer n p q r b c)
+        ∙ (ap (λ i. two_ways_at facts δ p i (triple n p q r b c % n)) (triple_middle n p q r b c)
+        ∙ ap (λ i. two_ways_at facts δ p q i) (triple_inner n p q r b c))
 
     again : (p q r j : ℕ) → j / (n * n) ≡ p → (j / n) % n ≡ q → j % n ≡ r → j ≡ (p * n + q) * n + r
     again p q r j dp dq dr =

@@ -19,7 +19,7 @@ use Rattle.golog.specs.Sureness.{PlainFinishes, Tracks, PlainTracks}
 use Rattle.golog.proofs.Searches.{any_found, lowest_some}
 use Rattle.golog.proofs.Passing.{first_in}
 use Rattle.golog.proofs.Numbers.{lead_found, number_in, surely_parts}
-use Rattle.golog.proofs.Choosing.{point-position, state-position, next_by_step, first_standing}
+use Rattle.golog.proofs.Choosing.{point_position, state_position, next_by_step, first_standing}
 
 -- one more act and reaction
 reaches_more :
@@ -40,9 +40,9 @@ lead_trans m law δ p a e q x l =
     let (_, z, _) = lowest_some (points δ) t j lo in
     let (b, _) = and_parts (next_by m δ p a j) (goes_on δ (m.holds s) j) z in
     let below = law.after_below (state_of m p) a e x in (
-      subst (Step (facts_at m p) a (rem_at m δ p)) (ap (rem δ) (sym (ap (point_of m) (sym po) ∙ point-position m j s below))) (next_by_step m δ p a j b),
+      subst (Step (facts_at m p) a (rem_at m δ p)) (ap (rem δ) (sym (ap (point_of m) (sym po) ∙ point_position m j s below))) (next_by_step m δ p a j b),
       x,
-      ap (state_of m) (sym po) ∙ state-position m j s below,
+      ap (state_of m) (sym po) ∙ state_position m j s below,
     )
 
 -- what a row of an accepted sheet says
@@ -62,20 +62,20 @@ row_says m δ N p v a h =
     ]
 
 module _ (m : Meaning) (law : Lawful m) (live : Live m) (δ : Prog) (N A : List ℕ) (acc : Accepts m δ N A) where
-  row-there : (p : ℕ) → p < positions m δ → (number_at m δ N p ≡ no_number → ⊥) →
+  row_there : (p : ℕ) → p < positions m δ → (number_at m δ N p ≡ no_number → ⊥) →
       true_row m δ N p (record { number = number_at m δ N p; act = get_or A p no_act }) ≡ true
-  row-there p h x =
+  row_there p h x =
       let e = cond-false (eqb (number_at m δ N p) no_number) none (some (record { number = number_at m δ N p; act = get_or A p no_act }))
       (ne_eqb (number_at m δ N p) no_number x) in
       subst (λ r. sound_row m δ N p r ≡ true) e (acc.2 p h)
 
   there : (p : ℕ) → p < positions m δ → number_at m δ N p < no_number →
       ((number_at m δ N p ≡ 0) × (may_stop m δ p ≡ true)) ⊎ (surely_below m δ N (number_at m δ N p) p (get_or A p no_act) ≡ true)
-  there p h l = row_says m δ N p (number_at m δ N p) (get_or A p no_act) (row-there p h (λ x. omega arith))
+  there p h l = row_says m δ N p (number_at m δ N p) (get_or A p no_act) (row_there p h (λ x. omega arith))
 
   -- nothing surely leads below 0
-  none-below-zero : (p a : ℕ) → surely_below m δ N 0 p a ≡ true → ⊥
-  none-below-zero p a h =
+  none_below_zero : (p a : ℕ) → surely_below m δ N 0 p a ≡ true → ⊥
+  none_below_zero p a h =
       let (u, k) = surely_parts m δ N 0 p a law h in
       let al = (and_parts (m.allowed (state_of m p) a) (any_below (points δ) (next_by m δ p a)) u).0 in
       let (e, _, x) = any_found reactions (m.possible (state_of m p) a) (live (state_of m p) a al) in
@@ -98,34 +98,34 @@ module _ (m : Meaning) (law : Lawful m) (live : Live m) (δ : Prog) (N A : List 
       × Stands j.phase j
 
   -- a job that comes to a position with a row
-  good-at : (p c : ℕ) → p < positions m δ → number_at m δ N p < no_number → c + number_at m δ N p ≤ number_at m δ N (first_position m) →
+  good_at : (p c : ℕ) → p < positions m δ → number_at m δ N p < no_number → c + number_at m δ N p ≤ number_at m δ N (first_position m) →
       Good (standing_at m δ N p c)
   unfolding Stands
-  good-at p c h l f = (h, refl, l, f, stands (eqb (number_at m δ N p) 0) refl)
+  good_at p c h l f = (h, refl, l, f, stands (eqb (number_at m δ N p) 0) refl)
     where
       stands : (b : Bool) → eqb (number_at m δ N p) 0 ≡ b → Stands (cond b finished ready) (standing_at m δ N p c)
       stands true e =
           elim (there p h l) [
             | inl (_, s) ↦ s
-            | inr s ↦ absurd (none-below-zero p (get_or A p no_act) (subst (λ n. surely_below m δ N n p (get_or A p no_act) ≡ true) (eqb-true (number_at m δ N p) 0 e) s))
+            | inr s ↦ absurd (none_below_zero p (get_or A p no_act) (subst (λ n. surely_below m δ N n p (get_or A p no_act) ≡ true) (eqb-true (number_at m δ N p) 0 e) s))
           ]
       stands false e = λ x. both_ways (eqb (number_at m δ N p) 0) e (eq-eqb (number_at m δ N p) 0 x)
 
-  begin-good : Good (plain_begin m δ N)
-  begin-good =
-      let b : number_at m δ N (first_position m) < no_number = first-row (cases_eq (number_at m δ N (first_position m)) no_number) in
-      good-at (first_position m) 0 (first_in m law δ) b (omega arith)
+  begin_good : Good (plain_begin m δ N)
+  begin_good =
+      let b : number_at m δ N (first_position m) < no_number = first_row (cases_eq (number_at m δ N (first_position m)) no_number) in
+      good_at (first_position m) 0 (first_in m law δ) b (omega arith)
     where
-      first-row : (number_at m δ N (first_position m) ≡ no_number) ⊎ (number_at m δ N (first_position m) ≡ no_number → ⊥) →
+      first_row : (number_at m δ N (first_position m) ≡ no_number) ⊎ (number_at m δ N (first_position m) ≡ no_number → ⊥) →
           number_at m δ N (first_position m) < no_number
-      first-row (inl x) =
+      first_row (inl x) =
           let e = cond-true (eqb (number_at m δ N (first_position m)) no_number) none
           (some (record { number = number_at m δ N (first_position m); act = get_or A (first_position m) no_act }))
           (eq-eqb (number_at m δ N (first_position m)) no_number x) in
           absurd (both_ways false refl (subst (λ r. has_row r ≡ true) e acc.1))
-      first-row (inr x) =
+      first_row (inr x) =
           let b = row_bound m δ N (first_position m) (number_at m δ N (first_position m)) (get_or A (first_position m) no_act)
-          (row-there (first_position m) (first_in m law δ) x) in
+          (row_there (first_position m) (first_in m law δ) x) in
           omega arith
 
   -- what a call keeps
@@ -136,8 +136,8 @@ module _ (m : Meaning) (law : Lawful m) (live : Live m) (δ : Prog) (N A : List 
       × ((h : History) → Reaches m δ h (rem_at m δ j.position) (state_of m j.position) →
       Reaches m δ (h ++ t) (rem_at m δ k.position) (state_of m k.position))
 
-  kept-still : (j k : Plain) → Good k → k.count ≡ j.count → k.position ≡ j.position → Kept j k []
-  kept-still j k g c e = (
+  kept_still : (j k : Plain) → Good k → k.count ≡ j.count → k.position ≡ j.position → Kept j k []
+  kept_still j k g c e = (
     g,
     omega arith,
     λ h r.
@@ -155,17 +155,17 @@ module _ (m : Meaning) (law : Lawful m) (live : Live m) (δ : Prog) (N A : List 
         | inl (x, _) ↦ absurd (s' (n ∙ x))
         | inr x ↦ subst (λ v. surely_below m δ N v j.position (get_or A j.position no_act) ≡ true) (sym n) x
       ] in
-      kept-still j (plain_perform m A j ready).0 (i, n, r, l, b) refl refl
-  perform_kept j g waiting e = kept-still j j g refl refl
-  perform_kept j g finished e = kept-still j j g refl refl
-  perform_kept j g given_up e = kept-still j j g refl refl
+      kept_still j (plain_perform m A j ready).0 (i, n, r, l, b) refl refl
+  perform_kept j g waiting e = kept_still j j g refl refl
+  perform_kept j g finished e = kept_still j j g refl refl
+  perform_kept j g given_up e = kept_still j j g refl refl
 
   -- a tell of a possible reaction
-  tell-moves : (j : Plain) → Good j → j.phase ≡ waiting → (e : ℕ) → m.possible (state_of m j.position) j.act e ≡ true →
+  tell_moves : (j : Plain) → Good j → j.phase ≡ waiting → (e : ℕ) → m.possible (state_of m j.position) j.act e ≡ true →
       Kept j (standing_at m δ N (moves_to j.position (lead m δ j.position j.act e)) (suc j.count)) ((j.act, e) ∷ [])
       × (number_at m δ N (moves_to j.position (lead m δ j.position j.act e)) < j.number)
   unfolding Stands
-  tell-moves j g w e x =
+  tell_moves j g w e x =
       let (i, n, r, l, s) = g in
       let b : surely_below m δ N j.number j.position j.act ≡ true = subst (λ f. Stands f j) w s in
       let (u, k) = surely_parts m δ N j.number j.position j.act law b in
@@ -175,17 +175,17 @@ module _ (m : Meaning) (law : Lawful m) (live : Live m) (δ : Prog) (N A : List 
       λ p. Kept j (standing_at m δ N p (suc j.count)) ((j.act, e) ∷ []) × (number_at m δ N p < j.number) in
       subst v (sym (ap (moves_to j.position) f)) (
         (
-          good-at q (suc j.count) h (omega arith) (omega arith),
+          good_at q (suc j.count) h (omega arith) (omega arith),
           omega arith,
           λ h r. reaches_more m δ m.first h _ _ j.act e _ _ r (lead_trans m law δ j.position j.act e q x f),
         ),
         omega arith,
       )
 
-  tell-kept : (j : Plain) → Good j → (e : ℕ) (f : Phase) → j.phase ≡ f →
+  tell_kept : (j : Plain) → Good j → (e : ℕ) (f : Phase) → j.phase ≡ f →
       Kept j (plain_tell m δ N e j f).0 (told_by (tell e) (plain_tell m δ N e j f).1 j)
-  tell-kept j g e ready w = kept-still j j g refl refl
-  tell-kept j g e waiting w = by (possible_at m δ j.position j.act e) refl
+  tell_kept j g e ready w = kept_still j j g refl refl
+  tell_kept j g e waiting w = by (possible_at m δ j.position j.act e) refl
     where
       turn : Bool → Plain × Answer
       turn b =
@@ -195,31 +195,31 @@ module _ (m : Meaning) (law : Lawful m) (live : Live m) (δ : Prog) (N A : List 
           ]
 
       by : (b : Bool) → possible_at m δ j.position j.act e ≡ b → Kept j (turn b).0 (told_by (tell e) (turn b).1 j)
-      by true x = (tell-moves j g w e (and_parts (ltb j.position (positions m δ)) (m.possible (state_of m j.position) j.act e) x).1).0
-      by false x = kept-still j j g refl refl
-  tell-kept j g e finished w = kept-still j j g refl refl
-  tell-kept j g e given_up w = kept-still j j g refl refl
+      by true x = (tell_moves j g w e (and_parts (ltb j.position (positions m δ)) (m.possible (state_of m j.position) j.act e) x).1).0
+      by false x = kept_still j j g refl refl
+  tell_kept j g e finished w = kept_still j j g refl refl
+  tell_kept j g e given_up w = kept_still j j g refl refl
 
-  give-up-kept : (j : Plain) → Good j → (f : Phase) → j.phase ≡ f → Kept j (plain_give_up j f).0 []
+  give_up_kept : (j : Plain) → Good j → (f : Phase) → j.phase ≡ f → Kept j (plain_give_up j f).0 []
   unfolding Stands
-  give-up-kept j g ready e = let (i, n, r, l, s) = g in kept-still j (plain_give_up j ready).0 (i, n, r, l, tt) refl refl
-  give-up-kept j g waiting e = let (i, n, r, l, s) = g in kept-still j (plain_give_up j waiting).0 (i, n, r, l, tt) refl refl
-  give-up-kept j g finished e = kept-still j j g refl refl
-  give-up-kept j g given_up e = kept-still j j g refl refl
+  give_up_kept j g ready e = let (i, n, r, l, s) = g in kept_still j (plain_give_up j ready).0 (i, n, r, l, tt) refl refl
+  give_up_kept j g waiting e = let (i, n, r, l, s) = g in kept_still j (plain_give_up j waiting).0 (i, n, r, l, tt) refl refl
+  give_up_kept j g finished e = kept_still j j g refl refl
+  give_up_kept j g given_up e = kept_still j j g refl refl
 
   call_kept : (j : Plain) → Good j → (c : Call) → Kept j (plain_call m δ N A c j).0 (told_by c (plain_call m δ N A c j).1 j)
   call_kept j g perform = perform_kept j g j.phase refl
-  call_kept j g (tell e) = tell-kept j g e j.phase refl
-  call_kept j g ask = kept-still j j g refl refl
-  call_kept j g give_up = give-up-kept j g j.phase refl
+  call_kept j g (tell e) = tell_kept j g e j.phase refl
+  call_kept j g ask = kept_still j j g refl refl
+  call_kept j g give_up = give_up_kept j g j.phase refl
 
-  calls-kept : (cs : List Call) (j : Plain) → Good j → Kept j (plain_after m δ N A cs j) (plain_told m δ N A cs j)
-  calls-kept [] j g = kept-still j j g refl refl
-  calls-kept (c ∷ cs) j g =
+  calls_kept : (cs : List Call) (j : Plain) → Good j → Kept j (plain_after m δ N A cs j) (plain_told m δ N A cs j)
+  calls_kept [] j g = kept_still j j g refl refl
+  calls_kept (c ∷ cs) j g =
       let k : Plain = (plain_call m δ N A c j).0 in
       let t : History = told_by c (plain_call m δ N A c j).1 j in
       let (a, b, r) = call_kept j g c in
-      let (d, e, s) = calls-kept cs k a in
+      let (d, e, s) = calls_kept cs k a in
       let l = length-append t (plain_told m δ N A cs k) in (
         d,
         omega arith,
@@ -231,7 +231,7 @@ module _ (m : Meaning) (law : Lawful m) (live : Live m) (δ : Prog) (N A : List 
   tracks : (cs : List Call) → Tracks m δ N A cs
   unfolding Stands
   tracks cs =
-      let (g, c, r) = calls-kept cs (plain_begin m δ N) begin-good in
+      let (g, c, r) = calls_kept cs (plain_begin m δ N) begin_good in
       let (i, n, l, f, s) = g in
       let (x, y) = first_standing m law δ in
       record {
@@ -242,8 +242,8 @@ module _ (m : Meaning) (law : Lawful m) (live : Live m) (δ : Prog) (N A : List 
       }
 
   -- a job that has come to a position is ready or finished
-  come-phase : (n : ℕ) → (phase_at n ≡ ready) ⊎ (phase_at n ≡ finished)
-  come-phase n =
+  come_phase : (n : ℕ) → (phase_at n ≡ ready) ⊎ (phase_at n ≡ finished)
+  come_phase n =
       elim (cases_Bool (eqb n 0)) [
         | inl x ↦ inr (cond-true (eqb n 0) finished ready x)
         | inr x ↦ inl (cond-false (eqb n 0) finished ready x)
@@ -270,7 +270,7 @@ module _ (m : Meaning) (law : Lawful m) (live : Live m) (δ : Prog) (N A : List 
             (λ e x.
             let w : Plain = (plain_perform m A j ready).0 in
             let gw = (perform_kept j g ready p).0 in
-            let (t, b) = tell-moves w gw refl e x in
+            let (t, b) = tell_moves w gw refl e x in
             let q : ℕ = moves_to w.position (lead m δ w.position w.act e) in
             let c : possible_at m δ w.position w.act e ≡ true =
             and_from (ltb w.position (positions m δ)) (m.possible (state_of m w.position) w.act e) (lt-ltb w.position (positions m δ) gw.0) x in
@@ -281,7 +281,7 @@ module _ (m : Meaning) (law : Lawful m) (live : Live m) (δ : Prog) (N A : List 
               | false ↦ (w, refused (impossible w.position))
             ] in
             let done : ((turn true).1 ≡ taken) × Finishes m δ N A k (turn true).0 =
-            (refl, finishes k (standing_at m δ N q (suc w.count)) t.0 (omega arith) (come-phase (number_at m δ N q))) in
+            (refl, finishes k (standing_at m δ N q (suc w.count)) t.0 (omega arith) (come_phase (number_at m δ N q))) in
             subst (λ y. ((turn y).1 ≡ taken) × Finishes m δ N A k (turn y).0) (sym c) done),
       )
 
@@ -290,5 +290,5 @@ plain_tracks m law live δ N A acc cs = tracks m law live δ N A acc cs
 
 pub plain_finishes : PlainFinishes
 plain_finishes m law live δ N A acc =
-    finishes m law live δ N A acc (number_at m δ N (first_position m)) (plain_begin m δ N) (begin-good m law live δ N A acc) (omega arith)
-    (come-phase m law live δ N A acc (number_at m δ N (first_position m)))
+    finishes m law live δ N A acc (number_at m δ N (first_position m)) (plain_begin m δ N) (begin_good m law live δ N A acc) (omega arith)
+    (come_phase m law live δ N A acc (number_at m δ N (first_position m)))

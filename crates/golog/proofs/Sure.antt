@@ -22,18 +22,18 @@ make_fits m δ n a e =
 
 module _ (m : Meaning) (δ : Prog) where
   -- the first position's number
-  abbrev pub first-number : ℕ
-  first-number = get_or (numbers m δ) (first_position m) no_number
+  abbrev pub first_number : ℕ
+  first_number = get_or (numbers m δ) (first_position m) no_number
 
-  pub made_some : (n a : ℕ) → fits m δ n a ≡ true → first-number < no_number → make m δ n a ≡ made first-number (row_count (numbers m δ))
+  pub made_some : (n a : ℕ) → fits m δ n a ≡ true → first_number < no_number → make m δ n a ≡ made first_number (row_count (numbers m δ))
   made_some n a e l =
       make_fits m δ n a e
-      ∙ cond-false (eqb first-number no_number) (no_sheet (first_position m)) (made first-number (row_count (numbers m δ))) (ne_eqb first-number no_number (λ x. omega arith))
+      ∙ cond-false (eqb first_number no_number) (no_sheet (first_position m)) (made first_number (row_count (numbers m δ))) (ne_eqb first_number no_number (λ x. omega arith))
 
-  pub made_none : (n a : ℕ) → fits m δ n a ≡ true → first-number ≡ no_number → make m δ n a ≡ no_sheet (first_position m)
+  pub made_none : (n a : ℕ) → fits m δ n a ≡ true → first_number ≡ no_number → make m δ n a ≡ no_sheet (first_position m)
   made_none n a e l =
       make_fits m δ n a e
-      ∙ cond-true (eqb first-number no_number) (no_sheet (first_position m)) (made first-number (row_count (numbers m δ))) (eq-eqb first-number no_number l)
+      ∙ cond-true (eqb first_number no_number) (no_sheet (first_position m)) (made first_number (row_count (numbers m δ))) (eq-eqb first_number no_number l)
 
 pub make_is_sure : MakeIsSure
 make_is_sure m law live δ one n a e =
@@ -42,10 +42,10 @@ make_is_sure m law live δ one n a e =
           let few = fits_few m δ n a e in
           let f = made_some m δ n a e (omega arith) in (
             λ p x. let g = sym f ∙ x in let z : ◌≡◌ {A = ℕ} 0 1 = cc in absurd (omega arith),
-            λ none. let (way, ends) = (within_is_ending m law live δ one (first-number m δ)).0 w in absurd (none way (first-number m δ) ends),
+            λ none. let (way, ends) = (within_is_ending m law live δ one (first_number m δ)).0 w in absurd (none way (first_number m δ) ends),
             λ k r x.
                 let g = sym f ∙ x in
-                let y : first-number m δ ≡ k = cc in (
+                let y : first_number m δ ≡ k = cc in (
                   (within_is_ending m law live δ one k).0 (subst (λ j. Within m δ j (first_position m)) y w),
                   λ way j l ends.
                       let z = least j ((within_is_ending m law live δ one j).1 way ends) in

@@ -53,19 +53,19 @@ module _ (d : Draft) (c : Contents) (s : Stands d c) (o : Option (List ℕ)) (t 
   same_names : both_names d.facts d.acts ≡ names_in c
   same_names = λ i. record { facts = s.facts i; acts = s.acts i }
 
-  heard-as : (r : Reading) → read (both_names d.facts d.acts) t ≡ r → listen o c (program_of old) ≡ heard r
-  heard-as r k = ap (λ x. listen x c (program_of old)) e ∙ ap heard (ap (λ N. read N t) (sym same_names) ∙ k)
+  heard_as : (r : Reading) → read (both_names d.facts d.acts) t ≡ r → listen o c (program_of old) ≡ heard r
+  heard_as r k = ap (λ x. listen x c (program_of old)) e ∙ ap heard (ap (λ N. read N t) (sym same_names) ∙ k)
 
   -- a text that is read is the program so far
-  pub heard-text : (p : Parsed) → ReadAs d.facts d.acts t p →
+  pub heard_text : (p : Parsed) → ReadAs d.facts d.acts t p →
       (listen o c (program_of old) ≡ Ok (Some (parsed_prog p))) × Listened o old (Some p) (length c.facts)
-  heard-text p r =
-      (heard-as _ r.reads, subst (λ x. Listened x old (Some p) (length c.facts)) (sym e) (p, refl, r.all_facts ∙ ap length s.facts))
+  heard_text p r =
+      (heard_as _ r.reads, subst (λ x. Listened x old (Some p) (length c.facts)) (sym e) (p, refl, r.all_facts ∙ ap length s.facts))
 
   -- one that is refused ends the reading
-  pub unheard-text : (f : TextFault) → RefusedAs d.facts d.acts t f → TextRefused (said_fault f) (listen o c (program_of old))
-  unheard-text f (inl m) = subst (λ x. TextRefused (said_fault x) (listen o c (program_of old))) (sym m) tt
-  unheard-text f (inr (g, w, r)) = subst (λ x. TextRefused x (listen o c (program_of old))) (sym w) (heard-as _ r)
+  pub unheard_text : (f : TextFault) → RefusedAs d.facts d.acts t f → TextRefused (said_fault f) (listen o c (program_of old))
+  unheard_text f (inl m) = subst (λ x. TextRefused (said_fault x) (listen o c (program_of old))) (sym m) tt
+  unheard_text f (inr (g, w, r)) = subst (λ x. TextRefused x (listen o c (program_of old))) (sym w) (heard_as _ r)
 
 -- what a refused text makes of one verdict it makes of another
 pub refused_too : {X Y : Type 0} (o : logic.Option golog.TextFault) (x : Result X Refusal) (y : Result Y Refusal) →

@@ -75,40 +75,40 @@ module _ (h : Header) (c : Contents) (o : Option Prog) (end : ℕ) where
   behind n i rest = hear_on (listen (text_in i) (with_item c i) o) (λ p. judge n h (with_item c i) p end rest)
 
   -- the verdict behind a record is the verdict before it
-  pub judge-on : (n : ℕ) (bytes : List ℕ) (i : Entry) (rest : List ℕ) (p : Option Prog) → 0 < length bytes → length bytes ≤ n →
+  pub judge_on : (n : ℕ) (bytes : List ℕ) (i : Entry) (rest : List ℕ) (p : Option Prog) → 0 < length bytes → length bytes ≤ n →
       turn h c (end - length bytes) bytes ≡ Ok (i, rest) → listen (text_in i) (with_item c i) o ≡ Ok p →
       (m : ℕ) × (length rest ≤ m) × (judge m h (with_item c i) p end rest ≡ judge n h c o end bytes)
   unfolding behind
-  judge-on n [] i rest p s l e k = let z : ⊥ = omega arith in absurd z
-  judge-on zero (b ∷ bytes) i rest p s l e k = let z : ⊥ = omega arith in absurd z
-  judge-on (suc n) (b ∷ bytes) i rest p s l e k = (
+  judge_on n [] i rest p s l e k = let z : ⊥ = omega arith in absurd z
+  judge_on zero (b ∷ bytes) i rest p s l e k = let z : ⊥ = omega arith in absurd z
+  judge_on (suc n) (b ∷ bytes) i rest p s l e k = (
     n,
     omega (arith, turn_rest h c _ (b ∷ bytes) i rest e),
     sym (ap (λ r. go_on r (behind n)) e ∙ ap (λ r. hear_on r (λ q. judge n h (with_item c i) q end rest)) k),
   )
 
   -- a record that is refused, and a text that is
-  pub judge-off : (n : ℕ) (bytes : List ℕ) (f : ModelFault) → 0 < length bytes → length bytes ≤ n →
+  pub judge_off : (n : ℕ) (bytes : List ℕ) (f : ModelFault) → 0 < length bytes → length bytes ≤ n →
       turn h c (end - length bytes) bytes ≡ Err f → judge n h c o end bytes ≡ Err (of_model f)
   unfolding behind
-  judge-off n [] f p l e = let z : ⊥ = omega arith in absurd z
-  judge-off zero (b ∷ bytes) f p l e = let z : ⊥ = omega arith in absurd z
-  judge-off (suc n) (b ∷ bytes) f p l e = ap (λ r. go_on r (behind n)) e
+  judge_off n [] f p l e = let z : ⊥ = omega arith in absurd z
+  judge_off zero (b ∷ bytes) f p l e = let z : ⊥ = omega arith in absurd z
+  judge_off (suc n) (b ∷ bytes) f p l e = ap (λ r. go_on r (behind n)) e
 
-  pub judge-unheard : (n : ℕ) (bytes : List ℕ) (i : Entry) (rest : List ℕ) (f : Refusal) → 0 < length bytes → length bytes ≤ n →
+  pub judge_unheard : (n : ℕ) (bytes : List ℕ) (i : Entry) (rest : List ℕ) (f : Refusal) → 0 < length bytes → length bytes ≤ n →
       turn h c (end - length bytes) bytes ≡ Ok (i, rest) → listen (text_in i) (with_item c i) o ≡ Err f → judge n h c o end bytes ≡ Err f
   unfolding behind
-  judge-unheard n [] i rest f p l e k = let z : ⊥ = omega arith in absurd z
-  judge-unheard zero (b ∷ bytes) i rest f p l e k = let z : ⊥ = omega arith in absurd z
-  judge-unheard (suc n) (b ∷ bytes) i rest f p l e k =
+  judge_unheard n [] i rest f p l e k = let z : ⊥ = omega arith in absurd z
+  judge_unheard zero (b ∷ bytes) i rest f p l e k = let z : ⊥ = omega arith in absurd z
+  judge_unheard (suc n) (b ∷ bytes) i rest f p l e k =
       ap (λ r. go_on r (behind n)) e ∙ ap (λ r. hear_on r (λ q. judge n h (with_item c i) q end rest)) k
 
   -- at the end of the file
-  pub judge-end : (n : ℕ) (bytes : List ℕ) → length bytes ≡ 0 → judge n h c o end bytes ≡ ended (closing h c end) h c end o
-  judge-end zero [] e = refl
-  judge-end (suc n) [] e = refl
-  judge-end n (b ∷ bytes) e = let z : ⊥ = omega arith in absurd z
+  pub judge_end : (n : ℕ) (bytes : List ℕ) → length bytes ≡ 0 → judge n h c o end bytes ≡ ended (closing h c end) h c end o
+  judge_end zero [] e = refl
+  judge_end (suc n) [] e = refl
+  judge_end n (b ∷ bytes) e = let z : ⊥ = omega arith in absurd z
 
   -- no fault is left but those of the routine
-  pub judge-complete : (n : ℕ) (bytes : List ℕ) (v : Result Said Refusal) → judge n h c o end bytes ≡ v → length bytes ≡ 0 → closing h c end ≡ None → v ≡ ended_routine h c end o
-  judge-complete n bytes v j e k = sym j ∙ (judge-end n bytes e ∙ ap (λ f. ended f h c end o) k)
+  pub judge_complete : (n : ℕ) (bytes : List ℕ) (v : Result Said Refusal) → judge n h c o end bytes ≡ v → length bytes ≡ 0 → closing h c end ≡ None → v ≡ ended_routine h c end o
+  judge_complete n bytes v j e k = sym j ∙ (judge_end n bytes e ∙ ap (λ f. ended f h c end o) k)

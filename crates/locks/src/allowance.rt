@@ -1,7 +1,8 @@
 ghost use Rattle.std.specs.Prelude.{◌≡◌, ◌+◌, ◌-◌, ◌*◌, ◌/◌, ◌%◌, ◌<◌, ◌≤◌, true, false, ◌&&◌, if◌then◌else◌, Some, None, MatchResult};
 ghost use Rattle.locks.specs.Allowed.{marked, allowance, unmarked_possible, layer_fault};
 ghost use Rattle.locks.specs.Layer.{layered, fits, admitted};
-ghost use Rattle.std.proofs.Common.{rules, arith};
+ghost use Rattle.locks.specs.LayerLaws.{layered_lawful, layered_live};
+ghost use Rattle.locks.specs.AllowanceLaws.{allowance_sound, allowance_lively};
 
 use crate::lock::{LiveLock, Lock, MOST_STATES, NO_REACTION, REACTIONS};
 use crate::marks::Marks;
@@ -99,7 +100,7 @@ impl<L: Lock> Allowance<L> {
 impl<L: Lock> Lock for Allowance<L> {
     ghost meaning = { λ p. layered (L.Lock.meaning p.lower) (allowance (marked p.marks) p.most) };
 
-    ghost lawful = { first_of (Prim.search rules, Prim.grind (arith, Self.row.coded.inj)) };
+    ghost lawful = { λ p. layered_lawful (L.Lock.meaning p.lower) (allowance (marked p.marks) p.most) (L.Lock.lawful p.lower) (allowance_sound (marked p.marks) p.most) };
 
     fn states(&self) -> u32 {
         let below = self.lower.states();
@@ -159,7 +160,7 @@ impl<L: Lock> Lock for Allowance<L> {
 }
 
 impl<L: LiveLock> LiveLock for Allowance<L> {
-    ghost live = { first_of (Prim.search rules, Prim.grind (arith, Self.row.coded.inj)) };
+    ghost live = { λ p. layered_live (L.Lock.meaning p.lower) (allowance (marked p.marks) p.most) (L.LiveLock.live p.lower) (allowance_lively (marked p.marks) p.most) };
 
     fn named(&self, state: u32, act: u8) -> u8 {
         lowest_possible(self, state, act).unwrap_or(NO_REACTION)

@@ -29,8 +29,8 @@ module _ (facts acts first : ℕ) (rule : ℕ → Option Rule) (change : ℕ →
       (numbers : (1 ≤ facts) × (facts ≤ 12) × (1 ≤ acts) × (acts ≤ 31) × (first < 2 ^ facts))
       (short : (a e : ℕ) → set_bits (change a e) < 2 ^ facts)
     where
-      pub fact-lawful : Lawful (fact_meaning facts acts first rule change)
-      fact-lawful = record {
+      pub fact_lawful : Lawful (fact_meaning facts acts first rule change)
+      fact_lawful = record {
         some_states = pow_pos facts;
         few_states = let h : 2 ^ facts ≤ 2 ^ 12 = pow_mono numbers.1 in omega arith;
         some_facts = numbers.0;
@@ -53,6 +53,6 @@ module _ (facts acts first : ℕ) (rule : ℕ → Option Rule) (change : ℕ →
 
 pub fact_lock_lawful : (l : FactLock) → Lawful (fact_lock l)
 fact_lock_lawful l =
-    fact-lawful l.facts l.acts l.first _ _ l.ranges
+    fact_lawful l.facts l.acts l.first _ _ l.ranges
     (λ a e.
     cond_both (nat_lt e 8) _ None (λ (x : Option Change). set_bits x < 2 ^ l.facts) (λ _. l.masks _) (λ _. pow_pos l.facts))

@@ -108,26 +108,26 @@ module _ (low : Lowest) (h : Header) (c : Contents) (end : ℕ) (st : LowestStan
   is_said : lowest_lock low ≡ lowest_said h c
   is_said = lowest_is_said low h c st
 
-  from-live : (o : Option (ℕ × ℕ)) → first_stuck (lowest_lock low) ≡ o → closing h c end ≡ closing_live o h c
-  from-live o e = cond-false _ _ _ All-there ∙ ap (λ x. closing_live x h c) (ap first_stuck (sym is_said) ∙ e)
+  from_live : (o : Option (ℕ × ℕ)) → first_stuck (lowest_lock low) ≡ o → closing h c end ≡ closing_live o h c
+  from_live o e = cond-false _ _ _ All-there ∙ ap (λ x. closing_live x h c) (ap first_stuck (sym is_said) ∙ e)
 
   pub ends_stuck : (a s : ℕ) → FirstStuck (lowest_lock low) a s → closing h c end ≡ Some (Stuck a s)
-  ends_stuck a s f = from-live (Some (a, s)) (stuck_first low a s f)
+  ends_stuck a s f = from_live (Some (a, s)) (stuck_first low a s f)
 
-  from-layer : Live (lowest_lock low) → (k : ℕ) → k ≡ borne c → (o : Option LayerFault) → layer_fault (lowest_lock low) k ≡ o → closing h c end ≡ closing_layer o
-  from-layer live k same o e =
-      from-live None (live_unstuck (lowest_lock low) live)
+  from_layer : Live (lowest_lock low) → (k : ℕ) → k ≡ borne c → (o : Option LayerFault) → layer_fault (lowest_lock low) k ≡ o → closing h c end ≡ closing_layer o
+  from_layer live k same o e =
+      from_live None (live_unstuck (lowest_lock low) live)
       ∙ ap closing_layer (ap₂ layer_fault (sym is_said) (sym same) ∙ e)
 
-  pub ends-layer : Live (lowest_lock low) → (k : ℕ) → k ≡ borne c → (f : LayerFault) → layer_fault (lowest_lock low) k ≡ Some f → closing h c end ≡ Some (Layer f)
-  ends-layer live k same f e = from-layer live k same (Some f) e
+  pub ends_layer : Live (lowest_lock low) → (k : ℕ) → k ≡ borne c → (f : LayerFault) → layer_fault (lowest_lock low) k ≡ Some f → closing h c end ≡ Some (Layer f)
+  ends_layer live k same f e = from_layer live k same (Some f) e
 
-  pub ends-well : Live (lowest_lock low) → (k : ℕ) → k ≡ borne c → layer_fault (lowest_lock low) k ≡ None → closing h c end ≡ None
-  ends-well live k same e = from-layer live k same None e
+  pub ends_well : Live (lowest_lock low) → (k : ℕ) → k ≡ borne c → layer_fault (lowest_lock low) k ≡ None → closing h c end ≡ None
+  ends_well live k same e = from_layer live k same None e
 
-  pub pile-is-said : (marks : Marks) → ((a e : ℕ) → marked marks a e ≡ marked_of c.marks a e) → (k : ℕ) → k ≡ borne c →
+  pub pile_is_said : (marks : Marks) → ((a e : ℕ) → marked marks a e ≡ marked_of c.marks a e) → (k : ℕ) → k ≡ borne c →
       layered (lowest_lock low) (allowance (marked marks) k) ≡ pile_said h c
-  pile-is-said marks same k e = λ i. layered (is_said i) (allowance (λ a x. same a x i) (e i))
+  pile_is_said marks same k e = λ i. layered (is_said i) (allowance (λ a x. same a x i) (e i))
 
 pub first_or_none : (c : Contents) → unwrap_or (first_of c.allowances) 0 ≡ borne c
 first_or_none c = at c.allowances

@@ -48,10 +48,10 @@ module _ (acts : ℕ) (ms : List (Option ℕ)) (old : List (ℕ × ℕ × ℕ ×
       let inner = row_and_column acts r b s a hb ha outer.0 in
       (inner.0, inner.1, outer.1)
 
-  pub move-more :
+  pub move_more :
       move_place acts r b d < length ms → ((s a e : ℕ) → move_in acts ms s a e ≡ move_of old s a e) →
       (s a e : ℕ) → move_in acts (set ms (move_place acts r b d) (Some t)) s a e ≡ move_of ((r, b, d, t) ∷ old) s a e
-  move-more within so_far s a e =
+  move_more within so_far s a e =
       elim (cases_Bool (eqb r s && (eqb b a && eqb d e))) [
         | inl hit ↦
             let rs : r ≡ s = grind (arith, nat_tests) in
@@ -92,8 +92,8 @@ unmarked n a e = and_right _ _ (all_false n (a * 8 + e))
 
 -- one mark more
 module _ (xs : List Bool) (old : List (ℕ × ℕ)) (b d : ℕ) (hb : b < 31) (hd : d < 8) (within : b * 8 + d < length xs) where
-  pub mark-more : ((a e : ℕ) → marked_in xs a e ≡ marked_of old a e) → (a e : ℕ) → marked_in (set xs (b * 8 + d) true) a e ≡ marked_of ((b, d) ∷ old) a e
-  mark-more so_far a e =
+  pub mark_more : ((a e : ℕ) → marked_in xs a e ≡ marked_of old a e) → (a e : ℕ) → marked_in (set xs (b * 8 + d) true) a e ≡ marked_of ((b, d) ∷ old) a e
+  mark_more so_far a e =
       elim (cases_Bool (eqb b a && eqb d e)) [
         | inl hit ↦
             let ba : b ≡ a = grind (arith, nat_tests) in

@@ -10,12 +10,12 @@ use Rattle.tree.specs.Trees.{prog_node}
 use Rattle.tree.specs.Held.{nodes, cond_at, prog_at}
 use Rattle.routine.specs.Sets.{room}
 use Rattle.routine.specs.Rows.{counted}
-use Rattle.routine.proofs.Entries.{prog-is}
+use Rattle.routine.proofs.Entries.{prog_is}
 
 pub act_is :
     (t : Tree) (i w : ℕ) (x : Node) → x ≡ get_or (nodes t) i (Act 0) →
     get_or (act_words (prog_node (prog_at t) (cond_at t) x)) w no_act ≡ get_or (act_words (prog_at t i)) w no_act
-act_is t i w x e = ap (λ δ. get_or (act_words δ) w no_act) (prog-is t i x e)
+act_is t i w x e = ap (λ δ. get_or (act_words δ) w no_act) (prog_is t i x e)
 
 pub act_of_two :
     (t : Tree) (i w a b : ℕ) (x : Node) → x ≡ get_or (nodes t) i (Act 0) → (x ≡ Seq a b) ⊎ (x ≡ Alt a b) →
@@ -30,9 +30,9 @@ pub no_more_acts : (a w : ℕ) → (w ≡ 0 → ⊥) → no_act ≡ get_or (a �
 no_more_acts a w h = sym (get_or_past (a ∷ []) w no_act (omega arith))
 
 module _ (p q : Prog) (w n : ℕ) (low : w < room) (count : n ≡ counted p) where
-  pub act-in-first : w < n → get_or (act_words p) w no_act ≡ get_or (act_words p ++ act_words q) w no_act
-  act-in-first h = sym (get_or_append_left (act_words p) (act_words q) no_act w (omega arith))
+  pub act_in_first : w < n → get_or (act_words p) w no_act ≡ get_or (act_words p ++ act_words q) w no_act
+  act_in_first h = sym (get_or_append_left (act_words p) (act_words q) no_act w (omega arith))
 
-  pub act-in-second : n ≤ w → get_or (act_words q) (w - n) no_act ≡ get_or (act_words p ++ act_words q) w no_act
-  act-in-second h =
+  pub act_in_second : n ≤ w → get_or (act_words q) (w - n) no_act ≡ get_or (act_words p ++ act_words q) w no_act
+  act_in_second h =
       let e : words p ≡ n = omega arith in sym (get_or-append_right (act_words p) (act_words q) n w no_act e h)

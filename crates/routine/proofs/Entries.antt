@@ -15,29 +15,29 @@ use Rattle.tree.specs.Held.{clauses, nodes, cond_at, prog_at}
 use Rattle.tree.proofs.Unrolled.{cond_unrolled, prog_unrolled}
 
 module _ (t : Tree) (i : ℕ) where
-  cond-past : length (clauses t) ≤ i → always ≡ cond_at t i
+  cond_past : length (clauses t) ≤ i → always ≡ cond_at t i
   unfolding cond_to cond_of
-  cond-past h = ap (cond_node (cond_to i (clauses t))) (sym (get_or_past (clauses t) i True h))
+  cond_past h = ap (cond_node (cond_to i (clauses t))) (sym (get_or_past (clauses t) i True h))
 
-  pub cond-is : (x : Clause) → x ≡ get_or (clauses t) i True → cond_node (cond_at t) x ≡ cond_at t i
-  cond-is x e =
+  pub cond_is : (x : Clause) → x ≡ get_or (clauses t) i True → cond_node (cond_at t) x ≡ cond_at t i
+  cond_is x e =
       ap (cond_node (cond_at t)) e
       ∙ elim (cases_lt i (length (clauses t))) [
         | inl h ↦ sym (cond_unrolled (clauses t) t.conds i h)
-        | inr h ↦ ap (cond_node (cond_at t)) (get_or_past (clauses t) i True h) ∙ cond-past h
+        | inr h ↦ ap (cond_node (cond_at t)) (get_or_past (clauses t) i True h) ∙ cond_past h
       ]
 
-  pub value-is : (v : Valuation) (x : Clause) → x ≡ get_or (clauses t) i True → eval (cond_node (cond_at t) x) v ≡ eval (cond_at t i) v
-  value-is v x e = ap (λ c. eval c v) (cond-is x e)
+  pub value_is : (v : Valuation) (x : Clause) → x ≡ get_or (clauses t) i True → eval (cond_node (cond_at t) x) v ≡ eval (cond_at t i) v
+  value_is v x e = ap (λ c. eval c v) (cond_is x e)
 
-  prog-past : length (nodes t) ≤ i → act 0 ≡ prog_at t i
+  prog_past : length (nodes t) ≤ i → act 0 ≡ prog_at t i
   unfolding prog_to prog_of
-  prog-past h = ap (prog_node (prog_to i (nodes t) (clauses t)) (cond_at t)) (sym (get_or_past (nodes t) i (Act 0) h))
+  prog_past h = ap (prog_node (prog_to i (nodes t) (clauses t)) (cond_at t)) (sym (get_or_past (nodes t) i (Act 0) h))
 
-  pub prog-is : (x : Node) → x ≡ get_or (nodes t) i (Act 0) → prog_node (prog_at t) (cond_at t) x ≡ prog_at t i
-  prog-is x e =
+  pub prog_is : (x : Node) → x ≡ get_or (nodes t) i (Act 0) → prog_node (prog_at t) (cond_at t) x ≡ prog_at t i
+  prog_is x e =
       ap (prog_node (prog_at t) (cond_at t)) e
       ∙ elim (cases_lt i (length (nodes t))) [
         | inl h ↦ sym (prog_unrolled (length (clauses t)) (nodes t) (clauses t) t.progs i h)
-        | inr h ↦ ap (prog_node (prog_at t) (cond_at t)) (get_or_past (nodes t) i (Act 0) h) ∙ prog-past h
+        | inr h ↦ ap (prog_node (prog_at t) (cond_at t)) (get_or_past (nodes t) i (Act 0) h) ∙ prog_past h
       ]

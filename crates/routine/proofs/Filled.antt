@@ -16,8 +16,8 @@ acts_more ws xs w x e h f =
 
 -- an entry more, of a table whose entries are known by their places
 module _ {X : Type 0} (P : ℕ → X → Type 0) (d : X) (xs : List X) (x : X) (known : (i : ℕ) → i < length xs → P i (get_or xs i d)) (last : P (length xs) x) where
-  pub known-push : (i : ℕ) → i < length (xs ++ x ∷ []) → P i (get_or (xs ++ x ∷ []) i d)
-  known-push i h =
+  pub known_push : (i : ℕ) → i < length (xs ++ x ∷ []) → P i (get_or (xs ++ x ∷ []) i d)
+  known_push i h =
       elim (cases_lt i (length xs)) [
         | inl l ↦ subst (P i) (sym (get_or_append_left xs (x ∷ []) d i l)) (known i l)
         | inr l ↦
@@ -29,7 +29,7 @@ pub rows_push :
     (δ : Prog) (rows : List Row) (r : Row) (v k : ℕ) → RowsOf δ rows → length rows ≡ v * points δ + k → k < points δ → IsRow δ (valuation v) k r →
     RowsOf δ (rows ++ r ∷ [])
 rows_push δ rows r v k known e h new =
-    known-push (λ i r. IsRow δ (valuation (i / points δ)) (i % points δ) r) no_row rows r known
+    known_push (λ i r. IsRow δ (valuation (i / points δ)) (i % points δ) r) no_row rows r known
     (subst₂ (λ w p. IsRow δ (valuation w) p r) (sym (ap (λ n. n / points δ) e ∙ div-mul-add v (points δ) k h))
     (sym (ap (λ n. n % points δ) e ∙ mod-mul-add v (points δ) k h)) new)
 
@@ -37,7 +37,7 @@ pub going_push :
     (δ : Prog) (sets : List ℕ) (s n : ℕ) → GoingOf δ sets → length sets ≡ n → Holds s (goes_on δ (valuation n)) → GoingOf δ (sets ++ s ∷ [])
 going_push δ sets s n known e new =
     λ i j h.
-    known-push (λ n s. Holds s (goes_on δ (valuation n))) 0 sets s (λ n l j k. known n j (l, k)) (subst (λ m. Holds s (goes_on δ (valuation m))) (sym e) new) i
+    known_push (λ n s. Holds s (goes_on δ (valuation n))) 0 sets s (λ n l j k. known n j (l, k)) (subst (λ m. Holds s (goes_on δ (valuation m))) (sym e) new) i
     h.0 j h.1
 
 -- the row of a point under a valuation

@@ -9,7 +9,7 @@ use Rattle.golog.specs.Programs.{Prog}
 use Rattle.golog.specs.Search.{lowest}
 use Rattle.golog.specs.Points.{points, two_ways_at, ways, ways_of}
 use Rattle.golog.specs.Points.Ways.{one_way, two_ways}
-use Rattle.golog.proofs.OneWays.{triple, triple-below, triple-outer, triple-middle, triple-inner}
+use Rattle.golog.proofs.OneWays.{triple, triple_below, triple_outer, triple_middle, triple_inner}
 use Rattle.golog.proofs.Searches.{none_of, lowest_none, lowest_some}
 use Rattle.routine.specs.Found.{NoneBelow}
 
@@ -33,21 +33,21 @@ module _ (facts : ℕ) (δ : Prog) where
   at : ℕ → Bool
   at k = two_ways_at facts δ (k / (n * n)) ((k / n) % n) (k % n)
 
-  pub no-ways : ((p : ℕ) → p < points δ → (q : ℕ) → q < points δ → NoneBelow (points δ) (two_ways_at facts δ p q)) → ways facts δ ≡ one_way
+  pub no_ways : ((p : ℕ) → p < points δ → (q : ℕ) → q < points δ → NoneBelow (points δ) (two_ways_at facts δ p q)) → ways facts δ ≡ one_way
   unfolding n at
-  no-ways none-of-all =
+  no_ways none-of-all =
       ap (ways_of (points δ))
       (none_of (lowest (points δ * points δ * points δ) at)
       (λ k e.
       let (h, a, _) = lowest_some (points δ * points δ * points δ) at k e in
       let z : 0 < points δ = omega arith in
       let p : k / (points δ * points δ) < points δ =
-      ap-below k (points δ) z h in
+      ap_below k (points δ) z h in
       both_ways (at k)
       (none-of-all (k / (points δ * points δ)) p ((k / points δ) % points δ) (mod_below (k / points δ) (points δ) z) (k % points δ) (mod_below k (points δ) z)) a))
     where
-      ap-below : (k m : ℕ) → 0 < m → k < m * m * m → k / (m * m) < m
-      ap-below k m z h =
+      ap_below : (k m : ℕ) → 0 < m → k < m * m * m → k / (m * m) < m
+      ap_below k m z h =
           subst (λ x. x < m) (div-div-eq-div-mul k m m) (div_below (k / m) m m z (div_below k m (m * m) z h))
 
   module _ (p q r : ℕ) (a : p < points δ) (b : q < points δ) (c : r < points δ)
@@ -83,20 +83,20 @@ module _ (facts : ℕ) (δ : Prog) where
         sym (div-add-mod' (k / points δ) (points δ)) ∙ ap (λ x. x * points δ + (k / points δ) % points δ) (div-div-eq-div-mul k (points δ) (points δ)) in
         sym (div-add-mod' k (points δ)) ∙ ap (λ x. x * points δ + k % points δ) e
 
-    pub lowest-ways : two_ways_at facts δ p q r ≡ true → ways facts δ ≡ two_ways p q r
+    pub lowest_ways : two_ways_at facts δ p q r ≡ true → ways facts δ ≡ two_ways p q r
     unfolding n at triple
-    lowest-ways e =
+    lowest_ways e =
         let m : ℕ = points δ in
         let z : 0 < m = omega arith in
         let k : ℕ = triple m p q r b c in
         let here : at k ≡ true =
-        ap (λ i. two_ways_at facts δ i ((k / m) % m) (k % m)) (triple-outer m p q r b c)
-        ∙ (ap (λ i. two_ways_at facts δ p i (k % m)) (triple-middle m p q r b c) ∙ (ap (λ i. two_ways_at facts δ p q i) (triple-inner m p q r b c) ∙ e)) in
+        ap (λ i. two_ways_at facts δ i ((k / m) % m) (k % m)) (triple_outer m p q r b c)
+        ∙ (ap (λ i. two_ways_at facts δ p i (k % m)) (triple_middle m p q r b c) ∙ (ap (λ i. two_ways_at facts δ p q i) (triple_inner m p q r b c) ∙ e)) in
         let found : lowest (m * m * m) at ≡ some k =
-        lowest_is (m * m * m) at k (triple-below m p q r b c a) here
+        lowest_is (m * m * m) at k (triple_below m p q r b c a) here
         (λ i h.
         none_before (i / (m * m)) ((i / m) % m) (i % m) (mod_below (i / m) m z) (mod_below i m z)
         (subst (λ x. x < (p * m + q) * m + r) (whole i) h)) in
         ap (ways_of m) found
-        ∙ (ap (λ i. two_ways i ((k / m) % m) (k % m)) (triple-outer m p q r b c)
-        ∙ (ap (λ i. two_ways p i (k % m)) (triple-middle m p q r b c) ∙ ap (λ i. two_ways p q i) (triple-inner m p q r b c)))
+        ∙ (ap (λ i. two_ways i ((k / m) % m) (k % m)) (triple_outer m p q r b c)
+        ∙ (ap (λ i. two_ways p i (k % m)) (triple_middle m p q r b c) ∙ ap (λ i. two_ways p q i) (triple_inner m p q r b c)))

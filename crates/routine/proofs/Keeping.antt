@@ -13,11 +13,11 @@ use Rattle.routine.specs.Found.{NoneBelow}
 use Rattle.routine.specs.declared.kept.Kept.{Kept}
 use Rattle.routine.specs.declared.kept.Kept.TheVariants.{Nil, Filled}
 use Rattle.routine.proofs.Going.{false_from}
-use Rattle.routine.proofs.Tabled.{few-points}
+use Rattle.routine.proofs.Tabled.{few_points}
 
 pub kept_few : (k : Kept) → points (kept_prog k) ≤ 64
 kept_few Nil = omega arith
-kept_few (Filled t) = few-points t
+kept_few (Filled t) = few_points t
 
 -- no point past the last comes next
 pub next_far : (δ : Prog) (v : Valuation) (p q : ℕ) → points δ ≤ q → next δ v p q ≡ false

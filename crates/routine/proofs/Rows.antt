@@ -13,7 +13,7 @@ use Rattle.routine.specs.Rows.{IsRow, IsStart, Starts, counted, no_start}
 use Rattle.routine.specs.declared.row.Row.{Row}
 use Rattle.routine.specs.declared.row.Start.{Start}
 use Rattle.routine.proofs.Masks.{has_none, has_single}
-use Rattle.routine.proofs.Points.{final_zero, seq-next, seq-next-first, seq-next-second, alt-next, alt-next-left, alt-next-right, star_next, star_next_after}
+use Rattle.routine.proofs.Points.{final_zero, seq_next, seq_next_first, seq_next_second, alt_next, alt_next_left, alt_next_right, star_next, star_next_after}
 
 -- a count that ends at 64 moves as the whole count
 moved_counted : (δ : Prog) (t : ℕ → Bool) (j : ℕ) → j < room → moved (counted δ) t j ≡ moved (words δ) t j
@@ -47,10 +47,10 @@ pub start_star :
 start_star p v s (w, (f, n)) = (w, (refl, λ j h. n j h ∙ sym (star_next p v j)))
 
 module _ (p q : Prog) (v : Valuation) (a b : Start) (first : IsStart p v a) (second : IsStart q v b) (n : ℕ) (r : Row) (total : n ≡ min 64 (a.words + b.words)) where
-  pub start-seq :
+  pub start_seq :
       r.stop ≡ (a.row.stop && b.row.stop) → Holds r.next (λ j. has a.row.next j || (a.row.stop && moved a.words (has b.row.next) j)) →
       IsStart (seq p q) v (record { words = n; row = r })
-  start-seq e h =
+  start_seq e h =
       let l = length-append (act_words p) (act_words q) in (
         total ∙ (sum_counted p q a.words b.words first.0 second.0 ∙ ap (min room) (sym l)),
         (
@@ -58,14 +58,14 @@ module _ (p q : Prog) (v : Valuation) (a b : Start) (first : IsStart p v a) (sec
           λ j k.
               h j k
               ∙ (ap₂ ◌||◌ (first.1.1 j k) (ap₂ ◌&&◌ first.1.0 (moved_same p a.words b.row.next (next q v 0) first.0 second.1.1 j k))
-              ∙ sym (seq-next p q v j)),
+              ∙ sym (seq_next p q v j)),
         ),
       )
 
-  pub start-alt :
+  pub start_alt :
       r.stop ≡ (a.row.stop || b.row.stop) → Holds r.next (λ j. has a.row.next j || moved a.words (has b.row.next) j) →
       IsStart (alt p q) v (record { words = n; row = r })
-  start-alt e h =
+  start_alt e h =
       let l = length-append (act_words p) (act_words q) in (
         total ∙ (sum_counted p q a.words b.words first.0 second.0 ∙ ap (min room) (sym l)),
         (
@@ -73,7 +73,7 @@ module _ (p q : Prog) (v : Valuation) (a b : Start) (first : IsStart p v a) (sec
           λ j k.
               h j k
               ∙ (ap₂ ◌||◌ (first.1.1 j k) (moved_same p a.words b.row.next (next q v 0) first.0 second.1.1 j k)
-              ∙ sym (alt-next p q v j)),
+              ∙ sym (alt_next p q v j)),
         ),
       )
 
@@ -100,36 +100,36 @@ module _ (p q : Prog) (v : Valuation) (i n : ℕ) (low : i < room) (count : n �
   after_first a b r l (s, x) (t, y) e h =
       let k : i < words p = omega arith in (
         e ∙ (ap₂ ◌&&◌ s (t ∙ final_zero q v) ∙ ap (λ ρ. Final ρ v) (sym (rem_in_first p q i k))),
-        λ j m. h j m ∙ (ap₂ ◌||◌ (x j m) (ap₂ ◌&&◌ s (moved_same p n b.next (next q v 0) count y j m)) ∙ sym (seq-next-first p q v j i k)),
+        λ j m. h j m ∙ (ap₂ ◌||◌ (x j m) (ap₂ ◌&&◌ s (moved_same p n b.next (next q v 0) count y j m)) ∙ sym (seq_next_first p q v j i k)),
       )
 
-  pub after-second :
+  pub after_second :
       (a r : Row) → n ≤ i → IsRow q v (suc (i - n)) a → r.stop ≡ a.stop → Holds r.next (moved n (has a.next)) → IsRow (seq p q) v (suc i) r
-  after-second a r l (s, x) e h =
+  after_second a r l (s, x) e h =
       let k : words p ≤ i = omega arith in
       let d : i - n ≡ i - words p = omega arith in (
         e ∙ (s ∙ (ap (λ m. Final (rem q (suc m)) v) d ∙ ap (λ ρ. Final ρ v) (sym (rem_in_second p q (i - words p) i (omega arith))))),
         λ j m.
             h j m
             ∙ (moved_same p n a.next (next q v (suc (i - n))) count x j m
-            ∙ (ap (λ z. moved (words p) (next q v (suc z)) j) d ∙ sym (seq-next-second p q v j i k))),
+            ∙ (ap (λ z. moved (words p) (next q v (suc z)) j) d ∙ sym (seq_next_second p q v j i k))),
       )
 
-  pub after-left : (a : Row) → i < n → IsRow p v (suc i) a → IsRow (alt p q) v (suc i) a
-  after-left a l (s, x) =
+  pub after_left : (a : Row) → i < n → IsRow p v (suc i) a → IsRow (alt p q) v (suc i) a
+  after_left a l (s, x) =
       let k : i < words p = omega arith in
-      (s ∙ ap (λ ρ. Final ρ v) (sym (rem_in_left p q i k)), λ j m. x j m ∙ sym (alt-next-left p q v j i k))
+      (s ∙ ap (λ ρ. Final ρ v) (sym (rem_in_left p q i k)), λ j m. x j m ∙ sym (alt_next_left p q v j i k))
 
-  pub after-right :
+  pub after_right :
       (a r : Row) → n ≤ i → IsRow q v (suc (i - n)) a → r.stop ≡ a.stop → Holds r.next (moved n (has a.next)) → IsRow (alt p q) v (suc i) r
-  after-right a r l (s, x) e h =
+  after_right a r l (s, x) e h =
       let k : words p ≤ i = omega arith in
       let d : i - n ≡ i - words p = omega arith in (
         e ∙ (s ∙ (ap (λ m. Final (rem q (suc m)) v) d ∙ ap (λ ρ. Final ρ v) (sym (rem_in_right p q (i - words p) i (omega arith))))),
         λ j m.
             h j m
             ∙ (moved_same p n a.next (next q v (suc (i - n))) count x j m
-            ∙ (ap (λ z. moved (words p) (next q v (suc z)) j) d ∙ sym (alt-next-right p q v j i k))),
+            ∙ (ap (λ z. moved (words p) (next q v (suc z)) j) d ∙ sym (alt_next_right p q v j i k))),
       )
 
 -- the count of a beginning is whole where the words are few

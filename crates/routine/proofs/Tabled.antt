@@ -4,7 +4,7 @@ use Rattle.std.proofs.lemmas.Nat.{pow_pos, mod_below, mul-le}
 use Rattle.std.proofs.lemmas.List.{get_or_read_under}
 use Rattle.golog.specs.Programs.{Prog, Valuation, names_below}
 use Rattle.golog.specs.Points.{no_act, points, word, rem, valuation}
-use Rattle.golog.proofs.OneWays.{Agree, names_rem, final-agree, next_agree}
+use Rattle.golog.proofs.OneWays.{Agree, names_rem, final_agree, next_agree}
 use Rattle.routine.specs.Sets.{room}
 use Rattle.routine.specs.Rows.{IsRow}
 use Rattle.routine.specs.Tables.{no_row, RowsOf}
@@ -19,29 +19,29 @@ use Rattle.routine.proofs.Going.{row_past}
 row_agree :
     (facts : ℕ) (v w : Valuation) (δ : Prog) (k : ℕ) (r : Row) → Agree facts v w → names_below facts δ ≡ true → IsRow δ v k r → IsRow δ w k r
 row_agree facts v w δ k r same named (s, n) =
-    (s ∙ final-agree facts v w same (rem δ k) (names_rem facts δ k named), λ j h. n j h ∙ next_agree facts v w same δ named k j)
+    (s ∙ final_agree facts v w same (rem δ k) (names_rem facts δ k named), λ j h. n j h ∙ next_agree facts v w same δ named k j)
 
 pub row_none : (δ : Prog) (v : Valuation) (k : ℕ) → points δ ≤ k → IsRow δ v k no_row
 row_none δ v k h = let (s, n) = row_past δ v k h in (s, λ j l. has_none j ∙ n j)
 
 module _ (t : Tables) where
-  pub acts-count : length (vec_items t.acts) ≡ points (tables_prog t)
-  acts-count = ap length t.worded
+  pub acts_count : length (vec_items t.acts) ≡ points (tables_prog t)
+  acts_count = ap length t.worded
 
-  pub acts-len : vec_len t.acts ≡ points (tables_prog t)
-  acts-len = t.acts.ok.0 ∙ acts-count
+  pub acts_len : vec_len t.acts ≡ points (tables_prog t)
+  acts_len = t.acts.ok.0 ∙ acts_count
 
-  pub few-points : points (tables_prog t) ≤ room
-  few-points = omega (arith, ltb-true _ _ t.short)
+  pub few_points : points (tables_prog t) ≤ room
+  few_points = omega (arith, ltb-true _ _ t.short)
 
   pub few_facts : t.facts ≤ 12
   few_facts = omega (arith, ltb-true _ _ t.few)
 
-  pub table-rows : RowsOf (tables_prog t) (vec_items t.rows)
-  table-rows i h = (t.stops i h, λ j l. t.nexts i j (h, l))
+  pub table_rows : RowsOf (tables_prog t) (vec_items t.rows)
+  table_rows i h = (t.stops i h, λ j l. t.nexts i j (h, l))
 
-  pub word-is : (k : ℕ) → get_or (vec_items t.acts) k no_act ≡ word (tables_prog t) k
-  word-is k = ap (λ l. get_or l k no_act) t.worded
+  pub word_is : (k : ℕ) → get_or (vec_items t.acts) k no_act ≡ word (tables_prog t) k
+  word_is k = ap (λ l. get_or l k no_act) t.worded
 
   module _ (v k m n : ℕ) (all : m ≡ 2 ^ t.facts) (count : n ≡ points (tables_prog t)) (below : k < n) where
     block : (v % m + 1) * n ≤ length (vec_items t.rows)
@@ -51,14 +51,14 @@ module _ (t : Tables) where
         let e : m * n ≡ 2 ^ t.facts * points (tables_prog t) = ap (λ x. x * n) all ∙ ap (λ x. 2 ^ t.facts * x) count in
         omega (arith, t.wide)
 
-    pub row-place : (v % m) * n + k < vec_len t.rows
-    row-place =
+    pub row_place : (v % m) * n + k < vec_len t.rows
+    row_place =
         let f : (v % m + 1) * n ≡ (v % m) * n + n = add-mul (v % m) 1 n ∙ ap (λ x. (v % m) * n + x) (one-mul n) in
         omega (arith, block, t.rows.ok.0)
 
-    pub row-found : (r : Row) → r ≡ get_or (vec_items t.rows) ((v % m) * n + k) r → IsRow (tables_prog t) (valuation v) k r
-    row-found r e =
-        let f = get_or_read_under (vec_items t.rows) ((v % m) * n + k) (vec_len t.rows) r no_row e row-place t.rows.ok.0 in
+    pub row_found : (r : Row) → r ≡ get_or (vec_items t.rows) ((v % m) * n + k) r → IsRow (tables_prog t) (valuation v) k r
+    row_found r e =
+        let f = get_or_read_under (vec_items t.rows) ((v % m) * n + k) (vec_len t.rows) r no_row e row_place t.rows.ok.0 in
         let same : Agree t.facts (valuation (v % m)) (valuation v) = λ i h. ap (λ x. valuation (v % x) i) all ∙ has_low v t.facts i h in
         row_agree t.facts (valuation (v % m)) (valuation v) (tables_prog t) k r same t.named
-        (subst (IsRow (tables_prog t) (valuation (v % m)) k) (sym f) (row_of (tables_prog t) (vec_items t.rows) (v % m) n k table-rows count below block))
+        (subst (IsRow (tables_prog t) (valuation (v % m)) k) (sym f) (row_of (tables_prog t) (vec_items t.rows) (v % m) n k table_rows count below block))

@@ -19,8 +19,8 @@ any_with t n x y e f = ap₂ ◌||◌ e f ∙ (or_swapped (any_below n t) (t n) 
 
 -- a set that is joined, or is not, since the first test holds, or fails
 module _ (a b : ℕ → Bool) (n : ℕ) (x : Bool) (old : x ≡ any_below n (λ k. a k && b k)) where
-  pub joined-more : (y : Bool) → a n ≡ true → y ≡ b n → (x || y) ≡ any_below (n + 1) (λ k. a k && b k)
-  joined-more y e f = any_with (λ k. a k && b k) n x y old (f ∙ sym (ap (λ c. c && b n) e))
+  pub joined_more : (y : Bool) → a n ≡ true → y ≡ b n → (x || y) ≡ any_below (n + 1) (λ k. a k && b k)
+  joined_more y e f = any_with (λ k. a k && b k) n x y old (f ∙ sym (ap (λ c. c && b n) e))
 
   pub left_out : a n ≡ false → x ≡ any_below (n + 1) (λ k. a k && b k)
   left_out e = sym (or_false x) ∙ any_with (λ k. a k && b k) n x false old (sym (ap (λ c. c && b n) e))
@@ -28,11 +28,11 @@ module _ (a b : ℕ → Bool) (n : ℕ) (x : Bool) (old : x ≡ any_below n (λ 
 and_moved : (a l e : Bool) → (a ≡ true → l ≡ true) → (a && (l && e)) ≡ (e && a)
 and_moved true true true h = refl
 and_moved true true false h = refl
-and_moved true false e h = absurd-of (h refl) e
+and_moved true false e h = absurd_of (h refl) e
   where
-    absurd-of : false ≡ true → (e : Bool) → false ≡ (e && true)
-    absurd-of z true = z
-    absurd-of z false = refl
+    absurd_of : false ≡ true → (e : Bool) → false ≡ (e && true)
+    absurd_of z true = z
+    absurd_of z false = refl
 and_moved false l true h = refl
 and_moved false l false h = refl
 
@@ -50,11 +50,11 @@ together_is δ facts p q j x y e f =
 
 -- a second way, from the two sets
 module _ (δ : Prog) (facts p q r : ℕ) (b x y : Bool) (e : b ≡ (x && y)) (f : x ≡ together facts δ p q r) (g : y ≡ go_on_together facts δ q r) where
-  both-sets : b ≡ (together facts δ p q r && go_on_together facts δ q r)
-  both-sets = e ∙ ap₂ ◌&&◌ f g
+  both_sets : b ≡ (together facts δ p q r && go_on_together facts δ q r)
+  both_sets = e ∙ ap₂ ◌&&◌ f g
 
-  pub two-ways-here : b ≡ true → q < r → two_ways_at facts δ p q r ≡ true
-  two-ways-here h l = and_from (ltb q r) (together facts δ p q r && go_on_together facts δ q r) (lt-ltb q r l) (sym both-sets ∙ h)
+  pub two_ways_here : b ≡ true → q < r → two_ways_at facts δ p q r ≡ true
+  two_ways_here h l = and_from (ltb q r) (together facts δ p q r && go_on_together facts δ q r) (lt-ltb q r l) (sym both_sets ∙ h)
 
-  pub not-two-ways : b ≡ false → two_ways_at facts δ p q r ≡ false
-  not-two-ways h = and_right (ltb q r) (together facts δ p q r && go_on_together facts δ q r) (sym both-sets ∙ h)
+  pub not_two_ways : b ≡ false → two_ways_at facts δ p q r ≡ false
+  not_two_ways h = and_right (ltb q r) (together facts δ p q r && go_on_together facts δ q r) (sym both_sets ∙ h)

@@ -77,9 +77,9 @@ module _ (N : Names) (len d : ℕ) (h : d ≤ most_depth) where
   level : (K : List Frame) (A : Sofar) (B : Base) (L : List Nest) (O : CondSofar) → suc (length K + length L) ≡ d → depth (want_cond K A B L O) ≤ most_depth
   level K A B L O e = omega arith
 
-  both-alike : (s : Reader) (K : List Frame) (A : Sofar) (B : Base) (L : List Nest) (D : Option Cond) (x y : Cond) →
+  both_alike : (s : Reader) (K : List Frame) (A : Sofar) (B : Base) (L : List Nest) (D : Option Cond) (x y : Cond) →
       going N len s (have_cond K A B L (D, some x) y) ≡ going N len s (have_cond K A B L (D, none) (both x y))
-  both-alike s K A B L D x y = alike s N len _ _ refl (λ w m. by w)
+  both_alike s K A B L D x y = alike s N len _ _ refl (λ w m. by w)
     where
       by : (w : golog.Word) → advance N (have_cond K A B L (D, some x) y) w ≡ advance N (have_cond K A B L (D, none) (both x y)) w
       by (name w) = refl
@@ -95,9 +95,9 @@ module _ (N : Names) (len d : ℕ) (h : d ≤ most_depth) where
       by (cond_behind do_word) = refl
       by strange = refl
 
-  any-alike : (s : Reader) (K : List Frame) (A : Sofar) (B : Base) (L : List Nest) (x y : Cond) → CondStops conjunction (rest s) →
+  any_alike : (s : Reader) (K : List Frame) (A : Sofar) (B : Base) (L : List Nest) (x y : Cond) → CondStops conjunction (rest s) →
       going N len s (have_cond K A B L (some x, none) y) ≡ going N len s (have_cond K A B L nothing_cond (any x y))
-  any-alike s K A B L x y n = alike s N len _ _ refl (λ w m. by w (λ e. n (sym m ∙ e)))
+  any_alike s K A B L x y n = alike s N len _ _ refl (λ w m. by w (λ e. n (sym m ∙ e)))
     where
       by : (w : golog.Word) → (mark_of w ≡ some mark.And → ⊥) → advance N (have_cond K A B L (some x, none) y) w ≡ advance N (have_cond K A B L nothing_cond (any x y)) w
       by (name w) n = refl
@@ -120,8 +120,8 @@ module _ (N : Names) (len d : ℕ) (h : d ≤ most_depth) where
     so_far K A B L O o e =
         r.on K A B L (O.0, none) tt e ∙ (ap (going N len a) (operand_open K A B L (O.0, none) (cond_at a.tree i) o) ∙ q.on K A B L O o e)
 
-    pub conjunction-read : (next_mark (rest t) ≡ some mark.And → ⊥) → CondRead conjunction N len d s t j
-    conjunction-read n = record {
+    pub conjunction_read : (next_mark (rest t) ≡ some mark.And → ⊥) → CondRead conjunction N len d s t j
+    conjunction_read n = record {
       fewer = omega (arith, r.fewer, q.fewer);
       stops = n;
       grows = grows_trans s.tree a.tree t.tree r.grows q.grows;
@@ -129,27 +129,27 @@ module _ (N : Names) (len d : ℕ) (h : d ≤ most_depth) where
       on = so_far;
     }
 
-    pub conjunction-over : (f : TextFault) → OverDone t (mark_word mark.And) f → CondRefused conjunction N len d s f
-    conjunction-over f x K A B L O o e = refusal f _ _ (so_far K A B L O o e) (x N len _ (want_cond K A B L (O.0, some (cond_at t.tree j))) refl)
+    pub conjunction_over : (f : TextFault) → OverDone t (mark_word mark.And) f → CondRefused conjunction N len d s f
+    conjunction_over f x K A B L O o e = refusal f _ _ (so_far K A B L O o e) (x N len _ (want_cond K A B L (O.0, some (cond_at t.tree j))) refl)
 
-    pub conjunction-refused : (b : Reader) → Taken t b (mark_word mark.And) → (f : TextFault) → CondRefused literal N len d b f → CondRefused conjunction N len d s f
-    conjunction-refused b p f x K A B L O o e =
+    pub conjunction_refused : (b : Reader) → Taken t b (mark_word mark.And) → (f : TextFault) → CondRefused literal N len d b f → CondRefused conjunction N len d s f
+    conjunction_refused b p f x K A B L O o e =
         let U = want_cond K A B L (O.0, some (cond_at t.tree j)) in
         refusal f _ _ (so_far K A B L O o e ∙ p.on N len _ U refl (level K A B L (O.0, some (cond_at t.tree j)) e)) (x K A B L (O.0, some (cond_at t.tree j)) tt e)
 
   module _ (s : Reader) (i : ℕ) (a : Reader) (j : ℕ) (q : CondJoined conjunction literal N len d s i a j) (b c t : Reader) (k m : ℕ)
       (p : Taken a b (mark_word mark.And)) (r : CondRead literal N len d b c k) (n : BuiltCond c t (both (cond_at c.tree j) (cond_at c.tree k)) m) where
-    pub and-fewer : length (rest t) < length (rest a)
-    and-fewer = subst (λ ts. length ts < length (rest a)) (sym n.unmoved.rests) (omega (arith, p.fewer, r.fewer))
+    pub and_fewer : length (rest t) < length (rest a)
+    and_fewer = subst (λ ts. length ts < length (rest a)) (sym n.unmoved.rests) (omega (arith, p.fewer, r.fewer))
 
-    a-to-c : Grows a.tree c.tree
-    a-to-c = grows_trans a.tree b.tree c.tree (grows_same a.tree b.tree p.tree) r.grows
+    a_to_c : Grows a.tree c.tree
+    a_to_c = grows_trans a.tree b.tree c.tree (grows_same a.tree b.tree p.tree) r.grows
 
-    pub and-joined : CondJoined conjunction literal N len d s i t m
-    and-joined = record {
-      fewer = omega (arith, and-fewer, q.fewer);
+    pub and_joined : CondJoined conjunction literal N len d s i t m
+    and_joined = record {
+      fewer = omega (arith, and_fewer, q.fewer);
       stops = tt;
-      grows = grows_trans s.tree a.tree t.tree q.grows (grows_trans a.tree c.tree t.tree a-to-c n.grows);
+      grows = grows_trans s.tree a.tree t.tree q.grows (grows_trans a.tree c.tree t.tree a_to_c n.grows);
       there = n.there;
       on = λ K A B L O o e.
           let x = cond_at a.tree j in
@@ -158,46 +158,46 @@ module _ (N : Names) (len d : ℕ) (h : d ≤ most_depth) where
           ∙ (p.on N len (have_cond K A B L (O.0, none) x) (want_cond K A B L (O.0, some x)) refl (level K A B L (O.0, some x) e)
           ∙ (r.on K A B L (O.0, some x) tt e
           ∙ (ap (going N len c) (operand_open K A B L (O.0, some x) y o)
-          ∙ (both-alike c K A B L O.0 x y
+          ∙ (both_alike c K A B L O.0 x y
           ∙ (unmoved_going c t n.unmoved N len _
-          ∙ ap (λ z. going N len t (have_cond K A B L (O.0, none) z)) (sym (n.is ∙ ap (λ z. both z y) (cond_stays a.tree c.tree a-to-c j q.there))))))));
+          ∙ ap (λ z. going N len t (have_cond K A B L (O.0, none) z)) (sym (n.is ∙ ap (λ z. both z y) (cond_stays a.tree c.tree a_to_c j q.there))))))));
     }
 
   module _ (s a : Reader) (i j : ℕ) (r : CondRead conjunction N len d s a i) (t : Reader) (q : CondJoined disjunction conjunction N len d a i t j) where
-    or-so-far : (K : List Frame) (A : Sofar) (B : Base) (L : List Nest) (O : CondSofar) → no_negation L ≡ true → suc (length K + length L) ≡ d →
+    or_so_far : (K : List Frame) (A : Sofar) (B : Base) (L : List Nest) (O : CondSofar) → no_negation L ≡ true → suc (length K + length L) ≡ d →
         going N len s (want_cond K A B L nothing_cond) ≡ going N len t (have_cond K A B L nothing_cond (cond_at t.tree j))
-    or-so-far K A B L O o e = r.on K A B L nothing_cond o e ∙ q.on K A B L O o e
+    or_so_far K A B L O o e = r.on K A B L nothing_cond o e ∙ q.on K A B L O o e
 
-    pub disjunction-read : (next_mark (rest t) ≡ some mark.Or → ⊥) → CondRead disjunction N len d s t j
-    disjunction-read n = record {
+    pub disjunction_read : (next_mark (rest t) ≡ some mark.Or → ⊥) → CondRead disjunction N len d s t j
+    disjunction_read n = record {
       fewer = omega (arith, r.fewer, q.fewer);
       stops = (q.stops, n);
       grows = grows_trans s.tree a.tree t.tree r.grows q.grows;
       there = q.there;
-      on = or-so-far;
+      on = or_so_far;
     }
 
-    pub disjunction-over : (f : TextFault) → OverDone t (mark_word mark.Or) f → CondRefused disjunction N len d s f
-    disjunction-over f x K A B L O o e = refusal f _ _ (or-so-far K A B L O o e) (x N len _ (want_cond K A B L (some (cond_at t.tree j), none)) refl)
+    pub disjunction_over : (f : TextFault) → OverDone t (mark_word mark.Or) f → CondRefused disjunction N len d s f
+    disjunction_over f x K A B L O o e = refusal f _ _ (or_so_far K A B L O o e) (x N len _ (want_cond K A B L (some (cond_at t.tree j), none)) refl)
 
-    pub disjunction-refused : (b : Reader) → Taken t b (mark_word mark.Or) → (f : TextFault) → CondRefused conjunction N len d b f → CondRefused disjunction N len d s f
-    disjunction-refused b p f x K A B L O o e =
+    pub disjunction_refused : (b : Reader) → Taken t b (mark_word mark.Or) → (f : TextFault) → CondRefused conjunction N len d b f → CondRefused disjunction N len d s f
+    disjunction_refused b p f x K A B L O o e =
         let D : CondSofar = (some (cond_at t.tree j), none) in
-        refusal f _ _ (or-so-far K A B L O o e ∙ p.on N len _ (want_cond K A B L D) refl (level K A B L D e)) (x K A B L D o e)
+        refusal f _ _ (or_so_far K A B L O o e ∙ p.on N len _ (want_cond K A B L D) refl (level K A B L D e)) (x K A B L D o e)
 
   module _ (s : Reader) (i : ℕ) (a : Reader) (j : ℕ) (q : CondJoined disjunction conjunction N len d s i a j) (b c t : Reader) (k m : ℕ)
       (p : Taken a b (mark_word mark.Or)) (r : CondRead conjunction N len d b c k) (n : BuiltCond c t (any (cond_at c.tree j) (cond_at c.tree k)) m) where
-    pub or-fewer : length (rest t) < length (rest a)
-    or-fewer = subst (λ ts. length ts < length (rest a)) (sym n.unmoved.rests) (omega (arith, p.fewer, r.fewer))
+    pub or_fewer : length (rest t) < length (rest a)
+    or_fewer = subst (λ ts. length ts < length (rest a)) (sym n.unmoved.rests) (omega (arith, p.fewer, r.fewer))
 
-    or-a-to-c : Grows a.tree c.tree
-    or-a-to-c = grows_trans a.tree b.tree c.tree (grows_same a.tree b.tree p.tree) r.grows
+    or_a_to_c : Grows a.tree c.tree
+    or_a_to_c = grows_trans a.tree b.tree c.tree (grows_same a.tree b.tree p.tree) r.grows
 
-    pub or-joined : CondJoined disjunction conjunction N len d s i t m
-    or-joined = record {
-      fewer = omega (arith, or-fewer, q.fewer);
+    pub or_joined : CondJoined disjunction conjunction N len d s i t m
+    or_joined = record {
+      fewer = omega (arith, or_fewer, q.fewer);
       stops = λ e. r.stops (sym (ap next_mark n.unmoved.rests) ∙ e);
-      grows = grows_trans s.tree a.tree t.tree q.grows (grows_trans a.tree c.tree t.tree or-a-to-c n.grows);
+      grows = grows_trans s.tree a.tree t.tree q.grows (grows_trans a.tree c.tree t.tree or_a_to_c n.grows);
       there = n.there;
       on = λ K A B L O o e.
           let x = cond_at a.tree j in
@@ -206,9 +206,9 @@ module _ (N : Names) (len d : ℕ) (h : d ≤ most_depth) where
           q.on K A B L O o e
           ∙ (p.on N len (have_cond K A B L nothing_cond x) (want_cond K A B L D) refl (level K A B L D e)
           ∙ (r.on K A B L D o e
-          ∙ (any-alike c K A B L x y r.stops
+          ∙ (any_alike c K A B L x y r.stops
           ∙ (unmoved_going c t n.unmoved N len _
-          ∙ ap (λ z. going N len t (have_cond K A B L nothing_cond z)) (sym (n.is ∙ ap (λ z. any z y) (cond_stays a.tree c.tree or-a-to-c j q.there)))))));
+          ∙ ap (λ z. going N len t (have_cond K A B L nothing_cond z)) (sym (n.is ∙ ap (λ z. any z y) (cond_stays a.tree c.tree or_a_to_c j q.there)))))));
     }
 
 -- the mark that closes a condition
@@ -218,48 +218,48 @@ cond_closer B (bracket P ∷ L) = some mark.Close
 cond_closer B (negation P ∷ L) = none
 
 module _ (N : Names) (len : ℕ) (K : List Frame) (A : Sofar) (c : Cond) where
-  close-unfit : (B : Base) (L : List Nest) → (some mark.Close ≡ cond_closer B L → ⊥) → advance N (have_cond K A B L nothing_cond c) close_round ≡ misfit
-  close-unfit B [] n = refl
-  close-unfit B (bracket P ∷ L) n = absurd (n refl)
-  close-unfit B (negation P ∷ L) n = refl
+  close_unfit : (B : Base) (L : List Nest) → (some mark.Close ≡ cond_closer B L → ⊥) → advance N (have_cond K A B L nothing_cond c) close_round ≡ misfit
+  close_unfit B [] n = refl
+  close_unfit B (bracket P ∷ L) n = absurd (n refl)
+  close_unfit B (negation P ∷ L) n = refl
 
-  square-unfit : (B : Base) (L : List Nest) → (some mark.CloseSquare ≡ cond_closer B L → ⊥) → advance N (have_cond K A B L nothing_cond c) (cond_behind close_square) ≡ misfit
-  square-unfit of_test [] n = absurd (n refl)
-  square-unfit of_test (x ∷ L) n = refl
-  square-unfit of_if L n = refl
-  square-unfit of_while L n = refl
+  square_unfit : (B : Base) (L : List Nest) → (some mark.CloseSquare ≡ cond_closer B L → ⊥) → advance N (have_cond K A B L nothing_cond c) (cond_behind close_square) ≡ misfit
+  square_unfit of_test [] n = absurd (n refl)
+  square_unfit of_test (x ∷ L) n = refl
+  square_unfit of_if L n = refl
+  square_unfit of_while L n = refl
 
-  then-unfit : (B : Base) (L : List Nest) → (some mark.Then ≡ cond_closer B L → ⊥) → advance N (have_cond K A B L nothing_cond c) (cond_behind then_word) ≡ misfit
-  then-unfit of_test L n = refl
-  then-unfit of_if [] n = absurd (n refl)
-  then-unfit of_if (x ∷ L) n = refl
-  then-unfit of_while L n = refl
+  then_unfit : (B : Base) (L : List Nest) → (some mark.Then ≡ cond_closer B L → ⊥) → advance N (have_cond K A B L nothing_cond c) (cond_behind then_word) ≡ misfit
+  then_unfit of_test L n = refl
+  then_unfit of_if [] n = absurd (n refl)
+  then_unfit of_if (x ∷ L) n = refl
+  then_unfit of_while L n = refl
 
-  do-unfit : (B : Base) (L : List Nest) → (some mark.Do ≡ cond_closer B L → ⊥) → advance N (have_cond K A B L nothing_cond c) (cond_behind do_word) ≡ misfit
-  do-unfit of_test L n = refl
-  do-unfit of_if L n = refl
-  do-unfit of_while [] n = absurd (n refl)
-  do-unfit of_while (x ∷ L) n = refl
+  do_unfit : (B : Base) (L : List Nest) → (some mark.Do ≡ cond_closer B L → ⊥) → advance N (have_cond K A B L nothing_cond c) (cond_behind do_word) ≡ misfit
+  do_unfit of_test L n = refl
+  do_unfit of_if L n = refl
+  do_unfit of_while [] n = absurd (n refl)
+  do_unfit of_while (x ∷ L) n = refl
 
   word_unfit : (B : Base) (L : List Nest) (w : golog.Word) → (mark_of w ≡ some mark.And → ⊥) → (mark_of w ≡ some mark.Or → ⊥) → (mark_of w ≡ cond_closer B L → ⊥) →
       advance N (have_cond K A B L nothing_cond c) w ≡ misfit
   word_unfit B L (name w) a o n = refl
   word_unfit B L open_round a o n = refl
-  word_unfit B L close_round a o n = close-unfit B L n
+  word_unfit B L close_round a o n = close_unfit B L n
   word_unfit B L (begins b) a o n = refl
   word_unfit B L (behind b) a o n = refl
   word_unfit B L (cond_begins b) a o n = refl
   word_unfit B L (cond_behind and_word) a o n = absurd (a refl)
   word_unfit B L (cond_behind or_word) a o n = absurd (o refl)
-  word_unfit B L (cond_behind close_square) a o n = square-unfit B L n
-  word_unfit B L (cond_behind then_word) a o n = then-unfit B L n
-  word_unfit B L (cond_behind do_word) a o n = do-unfit B L n
+  word_unfit B L (cond_behind close_square) a o n = square_unfit B L n
+  word_unfit B L (cond_behind then_word) a o n = then_unfit B L n
+  word_unfit B L (cond_behind do_word) a o n = do_unfit B L n
   word_unfit B L strange a o n = refl
 
   -- what is next has no place behind a condition that it neither joins nor closes
-  pub cond-unfit : (B : Base) (L : List Nest) (ts : List golog.Token) → CondStops disjunction ts → (next_mark ts ≡ cond_closer B L → ⊥) → Unfit N len (have_cond K A B L nothing_cond c) ts
-  cond-unfit B L [] s n = refl
-  cond-unfit B L (t ∷ ts) s n = word_unfit B L t.word s.0 s.1 n
+  pub cond_unfit : (B : Base) (L : List Nest) (ts : List golog.Token) → CondStops disjunction ts → (next_mark ts ≡ cond_closer B L → ⊥) → Unfit N len (have_cond K A B L nothing_cond c) ts
+  cond_unfit B L [] s n = refl
+  cond_unfit B L (t ∷ ts) s n = word_unfit B L t.word s.0 s.1 n
 
 -- facts and constants
 pub fact_is : (N : Names) (w : List ℕ) (i : ℕ) → number_of N.facts w ≡ some i → Is N (name w) (fact i)
@@ -277,11 +277,11 @@ false_is N K A B L O = refl
 
 -- a condition behind not
 module _ (N : Names) (len d : ℕ) (s : Reader) where
-  pub negation-over : (f : TextFault) → OverDeep s (said Not) d f → CondRefused literal N len d s f
-  negation-over f x K A B L O o e = x N len (want_cond K A B L O) (want_cond K A B (negation O ∷ L) nothing_cond) refl (omega arith)
+  pub negation_over : (f : TextFault) → OverDeep s (said Not) d f → CondRefused literal N len d s f
+  negation_over f x K A B L O o e = x N len (want_cond K A B L O) (want_cond K A B (negation O ∷ L) nothing_cond) refl (omega arith)
 
-  pub bracket-over : (f : TextFault) → OverDeep s (said Open) d f → CondRefused literal N len d s f
-  bracket-over f x K A B L O o e = x N len (want_cond K A B L O) (want_cond K A B (bracket O ∷ L) nothing_cond) refl (omega arith)
+  pub bracket_over : (f : TextFault) → OverDeep s (said Open) d f → CondRefused literal N len d s f
+  bracket_over f x K A B L O o e = x N len (want_cond K A B L O) (want_cond K A B (bracket O ∷ L) nothing_cond) refl (omega arith)
 
   module _ (a : Reader) (e : ℕ) (g : e ≡ d + 1) (h : e ≤ most_depth) where
     module _ (p : Taken s a (said Not)) where
@@ -289,11 +289,11 @@ module _ (N : Names) (len d : ℕ) (s : Reader) where
           going N len s (want_cond K A B L O) ≡ going N len a (want_cond K A B (negation O ∷ L) nothing_cond)
       not_on K A B L O x = p.on N len (want_cond K A B L O) (want_cond K A B (negation O ∷ L) nothing_cond) refl (omega arith)
 
-      pub negation-refused : (f : TextFault) → CondRefused literal N len e a f → CondRefused literal N len d s f
-      negation-refused f x K A B L O o y = refusal f _ _ (not_on K A B L O y) (x K A B (negation O ∷ L) nothing_cond tt (omega arith))
+      pub negation_refused : (f : TextFault) → CondRefused literal N len e a f → CondRefused literal N len d s f
+      negation_refused f x K A B L O o y = refusal f _ _ (not_on K A B L O y) (x K A B (negation O ∷ L) nothing_cond tt (omega arith))
 
-      pub negation-read : (b t : Reader) (i j : ℕ) → CondRead literal N len e a b i → BuiltCond b t (negated (cond_at b.tree i)) j → CondRead literal N len d s t j
-      negation-read b t i j r n = record {
+      pub negation_read : (b t : Reader) (i j : ℕ) → CondRead literal N len e a b i → BuiltCond b t (negated (cond_at b.tree i)) j → CondRead literal N len d s t j
+      negation_read b t i j r n = record {
         fewer = subst (λ ts. length ts < length (rest s)) (sym n.unmoved.rests) (omega (arith, p.fewer, r.fewer));
         stops = tt;
         grows = grows_trans s.tree a.tree t.tree (grows_same s.tree a.tree p.tree) (grows_trans a.tree b.tree t.tree r.grows n.grows);
@@ -305,25 +305,25 @@ module _ (N : Names) (len d : ℕ) (s : Reader) where
       }
 
     module _ (p : Taken s a (said Open)) where
-      open-on : (K : List Frame) (A : Sofar) (B : Base) (L : List Nest) (O : CondSofar) → suc (length K + length L) ≡ d →
+      open_on : (K : List Frame) (A : Sofar) (B : Base) (L : List Nest) (O : CondSofar) → suc (length K + length L) ≡ d →
           going N len s (want_cond K A B L O) ≡ going N len a (want_cond K A B (bracket O ∷ L) nothing_cond)
-      open-on K A B L O x = p.on N len (want_cond K A B L O) (want_cond K A B (bracket O ∷ L) nothing_cond) refl (omega arith)
+      open_on K A B L O x = p.on N len (want_cond K A B L O) (want_cond K A B (bracket O ∷ L) nothing_cond) refl (omega arith)
 
-      pub bracket-refused : (f : TextFault) → CondRefused disjunction N len e a f → CondRefused literal N len d s f
-      bracket-refused f x K A B L O o y = refusal f _ _ (open-on K A B L O y) (x K A B (bracket O ∷ L) nothing_cond refl (omega arith))
+      pub bracket_refused : (f : TextFault) → CondRefused disjunction N len e a f → CondRefused literal N len d s f
+      bracket_refused f x K A B L O o y = refusal f _ _ (open_on K A B L O y) (x K A B (bracket O ∷ L) nothing_cond refl (omega arith))
 
       module _ (b : Reader) (i : ℕ) (r : CondRead disjunction N len e a b i) where
         inside_on : (K : List Frame) (A : Sofar) (B : Base) (L : List Nest) (O : CondSofar) → suc (length K + length L) ≡ d →
             going N len s (want_cond K A B L O) ≡ going N len b (have_cond K A B (bracket O ∷ L) nothing_cond (cond_at b.tree i))
-        inside_on K A B L O y = open-on K A B L O y ∙ r.on K A B (bracket O ∷ L) nothing_cond refl (omega arith)
+        inside_on K A B L O y = open_on K A B L O y ∙ r.on K A B (bracket O ∷ L) nothing_cond refl (omega arith)
 
-        pub bracket-unclosed : (f : TextFault) → Unclosed b mark.Close len f → CondRefused literal N len d s f
-        bracket-unclosed f x K A B L O o y =
+        pub bracket_unclosed : (f : TextFault) → Unclosed b mark.Close len f → CondRefused literal N len d s f
+        bracket_unclosed f x K A B L O o y =
             refusal f _ _ (inside_on K A B L O y)
-            (x N _ (operand K A B L O (cond_at b.tree i)) refl (λ n. cond-unfit N len K A (cond_at b.tree i) B (bracket O ∷ L) (rest b) r.stops n))
+            (x N _ (operand K A B L O (cond_at b.tree i)) refl (λ n. cond_unfit N len K A (cond_at b.tree i) B (bracket O ∷ L) (rest b) r.stops n))
 
-        pub bracket-read : (t : Reader) → Taken b t (mark_word mark.Close) → CondRead literal N len d s t i
-        bracket-read t q = record {
+        pub bracket_read : (t : Reader) → Taken b t (mark_word mark.Close) → CondRead literal N len d s t i
+        bracket_read t q = record {
           fewer = omega (arith, p.fewer, r.fewer, q.fewer);
           stops = tt;
           grows = grows_trans s.tree a.tree t.tree (grows_same s.tree a.tree p.tree) (grows_trans a.tree b.tree t.tree r.grows (grows_same b.tree t.tree q.tree));

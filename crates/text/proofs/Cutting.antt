@@ -60,30 +60,30 @@ run_all xs s i n e h =
     ∙ (ap (cut (run s (between s n xs)) n) (drop_all n xs h) ∙ sym (ap (λ bs. token s (run_word (between s n xs)) ∷ cut gap n bs) (drop_all n xs h)))
 
 module _ (xs : List ℕ) (i : ℕ) (h : i < length xs) where
-  pub comment-ends : get_or xs i 0 ≡ 10 → cut comment i (drop i xs) ≡ cut gap (i + 1) (drop (i + 1) xs)
-  comment-ends e =
+  pub comment_ends : get_or xs i 0 ≡ 10 → cut comment i (drop i xs) ≡ cut gap (i + 1) (drop (i + 1) xs)
+  comment_ends e =
       ap (cut comment i) (drop_more xs i 0 h)
       ∙ (ap (λ t. at_comment t i (drop (i + 1) xs)) (eq-eqb (get_or xs i 0) 10 e) ∙ ap (λ n. cut gap n (drop (i + 1) xs)) (sym (add-one i)))
 
-  pub comment-more : (get_or xs i 0 ≡ 10 → ⊥) → cut comment i (drop i xs) ≡ cut comment (i + 1) (drop (i + 1) xs)
-  comment-more n =
+  pub comment_more : (get_or xs i 0 ≡ 10 → ⊥) → cut comment i (drop i xs) ≡ cut comment (i + 1) (drop (i + 1) xs)
+  comment_more n =
       ap (cut comment i) (drop_more xs i 0 h)
       ∙ (ap (λ t. at_comment t i (drop (i + 1) xs)) (ne_eqb (get_or xs i 0) 10 n) ∙ ap (λ n. cut comment n (drop (i + 1) xs)) (sym (add-one i)))
 
   gap_step : (k : Byte) → k ≡ byte_kind (get_or xs i 0) → cut gap i (drop i xs) ≡ at_gap k i (get_or xs i 0) (drop (i + 1) xs)
   gap_step k e = ap (cut gap i) (drop_more xs i 0 h) ∙ ap (λ t. at_gap t i (get_or xs i 0) (drop (i + 1) xs)) (sym e)
 
-  pub gap-blank : space ≡ byte_kind (get_or xs i 0) → cut gap i (drop i xs) ≡ cut gap (i + 1) (drop (i + 1) xs)
-  gap-blank e = gap_step space e ∙ ap (λ n. cut gap n (drop (i + 1) xs)) (sym (add-one i))
+  pub gap_blank : space ≡ byte_kind (get_or xs i 0) → cut gap i (drop i xs) ≡ cut gap (i + 1) (drop (i + 1) xs)
+  gap_blank e = gap_step space e ∙ ap (λ n. cut gap n (drop (i + 1) xs)) (sym (add-one i))
 
-  pub gap-hash : hash ≡ byte_kind (get_or xs i 0) → cut gap i (drop i xs) ≡ cut comment (i + 1) (drop (i + 1) xs)
-  gap-hash e = gap_step hash e ∙ ap (λ n. cut comment n (drop (i + 1) xs)) (sym (add-one i))
+  pub gap_hash : hash ≡ byte_kind (get_or xs i 0) → cut gap i (drop i xs) ≡ cut comment (i + 1) (drop (i + 1) xs)
+  gap_hash e = gap_step hash e ∙ ap (λ n. cut comment n (drop (i + 1) xs)) (sym (add-one i))
 
-  pub gap-lone : (w : Word) → lone w ≡ byte_kind (get_or xs i 0) → cut gap i (drop i xs) ≡ token i w ∷ cut gap (i + 1) (drop (i + 1) xs)
-  gap-lone w e = gap_step (lone w) e ∙ ap (λ n. token i w ∷ cut gap n (drop (i + 1) xs)) (sym (add-one i))
+  pub gap_lone : (w : Word) → lone w ≡ byte_kind (get_or xs i 0) → cut gap i (drop i xs) ≡ token i w ∷ cut gap (i + 1) (drop (i + 1) xs)
+  gap_lone w e = gap_step (lone w) e ∙ ap (λ n. token i w ∷ cut gap n (drop (i + 1) xs)) (sym (add-one i))
 
-  pub gap-part : part ≡ byte_kind (get_or xs i 0) → cut gap i (drop i xs) ≡ cut (run i (between i (i + 1) xs)) (i + 1) (drop (i + 1) xs)
-  gap-part e =
+  pub gap_part : part ≡ byte_kind (get_or xs i 0) → cut gap i (drop i xs) ≡ cut (run i (between i (i + 1) xs)) (i + 1) (drop (i + 1) xs)
+  gap_part e =
       let one : between i (i + 1) xs ≡ get_or xs i 0 ∷ [] =
       between_more xs i i 0 (omega arith) h ∙ ap (λ n. take n (drop i xs) ++ get_or xs i 0 ∷ []) (sub_self i) in
       gap_step part e ∙ ap₂ (λ w n. cut (run i w) n (drop (i + 1) xs)) (sym one) (sym (add-one i))

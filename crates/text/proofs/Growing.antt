@@ -118,8 +118,8 @@ unmoved_trans s t u h k = record { rests = k.rests ∙ h.rests; counts = k.count
 -- programs of several entries
 module _ (s a t : Reader) (c p i j : ℕ) (one : Built s a (test (cond_at s.tree c)) i) (two : Built a t (seq (prog_at a.tree i) (prog_at a.tree p)) j)
     (h : p < length (nodes s.tree)) where
-  pub guarded-built : Built s t (seq (test (cond_at s.tree c)) (prog_at s.tree p)) j
-  guarded-built = record {
+  pub guarded_built : Built s t (seq (test (cond_at s.tree c)) (prog_at s.tree p)) j
+  guarded_built = record {
     unmoved = unmoved_trans s a t one.unmoved two.unmoved;
     grows = grows_trans s.tree a.tree t.tree one.grows two.grows;
     there = two.there;
@@ -132,22 +132,22 @@ module _ (s a b d t : Reader) (c p q first n second i : ℕ)
     (three : Built b d (seq (test (cond_at b.tree n)) (prog_at b.tree q)) second)
     (four : Built d t (alt (prog_at d.tree first) (prog_at d.tree second)) i)
     (h : c < length (clauses s.tree)) (l : q < length (nodes s.tree)) where
-  to-b : Grows s.tree b.tree
-  to-b = grows_trans s.tree a.tree b.tree one.grows two.grows
+  to_b : Grows s.tree b.tree
+  to_b = grows_trans s.tree a.tree b.tree one.grows two.grows
 
-  a-to-d : Grows a.tree d.tree
-  a-to-d = grows_trans a.tree b.tree d.tree two.grows three.grows
+  a_to_d : Grows a.tree d.tree
+  a_to_d = grows_trans a.tree b.tree d.tree two.grows three.grows
 
-  pub branch-built : Built s t (if_then_else (cond_at s.tree c) (prog_at s.tree p) (prog_at s.tree q)) i
-  branch-built = record {
+  pub branch_built : Built s t (if_then_else (cond_at s.tree c) (prog_at s.tree p) (prog_at s.tree q)) i
+  branch_built = record {
     unmoved =
         unmoved_trans s a t one.unmoved (unmoved_trans a b t two.unmoved (unmoved_trans b d t three.unmoved four.unmoved));
-    grows = grows_trans s.tree b.tree t.tree to-b (grows_trans b.tree d.tree t.tree three.grows four.grows);
+    grows = grows_trans s.tree b.tree t.tree to_b (grows_trans b.tree d.tree t.tree three.grows four.grows);
     there = four.there;
     is =
         four.is
-        ∙ ap₂ alt (prog_stays a.tree d.tree a-to-d first one.there ∙ one.is)
-        (three.is ∙ ap₂ (λ x y. seq (test x) y) (two.is ∙ ap negated (cond_stays s.tree a.tree one.grows c h)) (prog_stays s.tree b.tree to-b q l));
+        ∙ ap₂ alt (prog_stays a.tree d.tree a_to_d first one.there ∙ one.is)
+        (three.is ∙ ap₂ (λ x y. seq (test x) y) (two.is ∙ ap negated (cond_stays s.tree a.tree one.grows c h)) (prog_stays s.tree b.tree to_b q l));
   }
 
 module _ (s a b d e t : Reader) (c p body turns n end i : ℕ)
@@ -157,21 +157,21 @@ module _ (s a b d e t : Reader) (c p body turns n end i : ℕ)
     (four : Built d e (test (cond_at d.tree n)) end)
     (five : Built e t (seq (prog_at e.tree turns) (prog_at e.tree end)) i)
     (h : c < length (clauses s.tree)) where
-  up-to-b : Grows s.tree b.tree
-  up-to-b = grows_trans s.tree a.tree b.tree one.grows two.grows
+  up_to_b : Grows s.tree b.tree
+  up_to_b = grows_trans s.tree a.tree b.tree one.grows two.grows
 
-  b-to-e : Grows b.tree e.tree
-  b-to-e = grows_trans b.tree d.tree e.tree three.grows four.grows
+  b_to_e : Grows b.tree e.tree
+  b_to_e = grows_trans b.tree d.tree e.tree three.grows four.grows
 
-  pub repeat-built : Built s t (while_do (cond_at s.tree c) (prog_at s.tree p)) i
-  repeat-built = record {
+  pub repeat_built : Built s t (while_do (cond_at s.tree c) (prog_at s.tree p)) i
+  repeat_built = record {
     unmoved =
         unmoved_trans s a t one.unmoved
         (unmoved_trans a b t two.unmoved (unmoved_trans b d t three.unmoved (unmoved_trans d e t four.unmoved five.unmoved)));
-    grows = grows_trans s.tree b.tree t.tree up-to-b (grows_trans b.tree e.tree t.tree b-to-e five.grows);
+    grows = grows_trans s.tree b.tree t.tree up_to_b (grows_trans b.tree e.tree t.tree b_to_e five.grows);
     there = five.there;
     is =
         five.is
-        ∙ ap₂ seq (prog_stays b.tree e.tree b-to-e turns two.there ∙ (two.is ∙ ap star one.is))
-        (four.is ∙ ap test (three.is ∙ ap negated (cond_stays s.tree b.tree up-to-b c h)));
+        ∙ ap₂ seq (prog_stays b.tree e.tree b_to_e turns two.there ∙ (two.is ∙ ap star one.is))
+        (four.is ∙ ap test (three.is ∙ ap negated (cond_stays s.tree b.tree up_to_b c h)));
   }

@@ -41,9 +41,9 @@ module _ (N : Names) (len : ℕ) (o : ℕ) (w : golog.Word) (ts : List golog.Tok
       ap (after_word o n k (read_on N len ts)) e
       ∙ (ap (λ t. by_limit t o (read_on N len ts (suc n) k U)) (within_limits (suc n) k U (omega arith) b d) ∙ ap (λ m. read_on N len ts m k U) (sym (add-one n)))
 
-  on-act : advance N S w ≡ goes_by_act U → n < most_words → k < most_act_words → depth U ≤ most_depth →
+  on_act : advance N S w ≡ goes_by_act U → n < most_words → k < most_act_words → depth U ≤ most_depth →
       read_on N len (golog.token o w ∷ ts) n k S ≡ read_on N len ts (n + 1) (k + 1) U
-  on-act e a b d =
+  on_act e a b d =
       ap (after_word o n k (read_on N len ts)) e
       ∙ (ap (λ t. by_limit t o (read_on N len ts (suc n) (suc k) U)) (within_limits (suc n) (suc k) U (omega arith) (omega arith) d)
       ∙ ap₂ (λ m l. read_on N len ts m l U) (sym (add-one n)) (sym (add-one k)))
@@ -51,12 +51,12 @@ module _ (N : Names) (len : ℕ) (o : ℕ) (w : golog.Word) (ts : List golog.Tok
   off : advance N S w ≡ goes U → in_limits (suc n) k U ≡ false → read_on N len (golog.token o w ∷ ts) n k S ≡ refused (over_limit o)
   off e l = ap (after_word o n k (read_on N len ts)) e ∙ ap (λ t. by_limit t o (read_on N len ts (suc n) k U)) l
 
-  off-act : advance N S w ≡ goes_by_act U → in_limits (suc n) (suc k) U ≡ false → read_on N len (golog.token o w ∷ ts) n k S ≡ refused (over_limit o)
-  off-act e l = ap (after_word o n k (read_on N len ts)) e ∙ ap (λ t. by_limit t o (read_on N len ts (suc n) (suc k) U)) l
+  off_act : advance N S w ≡ goes_by_act U → in_limits (suc n) (suc k) U ≡ false → read_on N len (golog.token o w ∷ ts) n k S ≡ refused (over_limit o)
+  off_act e l = ap (after_word o n k (read_on N len ts)) e ∙ ap (λ t. by_limit t o (read_on N len ts (suc n) (suc k) U)) l
 
 module _ (s t : Reader) (x : Token) (p : Passed s t x) where
-  pub passed-fewer : length (rest t) < length (rest s)
-  passed-fewer = let e = ap length p.rests in omega (arith, e)
+  pub passed_fewer : length (rest t) < length (rest s)
+  passed_fewer = let e = ap length p.rests in omega (arith, e)
 
   pub passed_on : s.taken < most_words → (N : Names) (len : ℕ) (S U : State) → advance N S (said x.word) ≡ goes U → depth U ≤ most_depth →
       going N len s S ≡ going N len t U
@@ -67,12 +67,12 @@ module _ (s t : Reader) (x : Token) (p : Passed s t x) where
       ∙ ap₂ (λ m l. read_on N len (rest t) m l U) (sym p.counts) (sym p.acts))
 
   -- then an act word is counted
-  pub passed-act-on : (u : Reader) → rest u ≡ rest t → u.taken ≡ t.taken → u.acts ≡ t.acts + 1 → s.taken < most_words → s.acts < most_act_words →
+  pub passed_act_on : (u : Reader) → rest u ≡ rest t → u.taken ≡ t.taken → u.acts ≡ t.acts + 1 → s.taken < most_words → s.acts < most_act_words →
       (N : Names) (len : ℕ) (S U : State) → advance N S (said x.word) ≡ goes_by_act U → depth U ≤ most_depth → going N len s S ≡ going N len u U
   unfolding going
-  passed-act-on u r i j a b N len S U e d =
+  passed_act_on u r i j a b N len S U e d =
       ap (λ ts. read_on N len ts s.taken s.acts S) p.rests
-      ∙ (on-act N len x.at (said x.word) (rest t) s.taken s.acts S U e a b d
+      ∙ (on_act N len x.at (said x.word) (rest t) s.taken s.acts S U e a b d
       ∙ (ap (λ ts. read_on N len ts (s.taken + 1) (s.acts + 1) U) (sym r)
       ∙ ap₂ (λ m l. read_on N len (rest u) m l U) (sym (i ∙ p.counts)) (sym (j ∙ ap (λ l. l + 1) p.acts))))
 
@@ -83,15 +83,15 @@ module _ (s : Reader) (x : Token) (e : s.ahead ≡ Some x) where
   stopped N len S U g l =
       ap (λ a. read_on N len (rest_from a s.words) s.taken s.acts S) e ∙ off N len x.at (said x.word) _ s.taken s.acts S U g l
 
-  pub stopped-act : (N : Names) (len : ℕ) (S U : State) → advance N S (said x.word) ≡ goes_by_act U → in_limits (suc s.taken) (suc s.acts) U ≡ false →
+  pub stopped_act : (N : Names) (len : ℕ) (S U : State) → advance N S (said x.word) ≡ goes_by_act U → in_limits (suc s.taken) (suc s.acts) U ≡ false →
       going N len s S ≡ refused (over_limit x.at)
   unfolding going
-  stopped-act N len S U g l =
-      ap (λ a. read_on N len (rest_from a s.words) s.taken s.acts S) e ∙ off-act N len x.at (said x.word) _ s.taken s.acts S U g l
+  stopped_act N len S U g l =
+      ap (λ a. read_on N len (rest_from a s.words) s.taken s.acts S) e ∙ off_act N len x.at (said x.word) _ s.taken s.acts S U g l
 
-  pub unfit-word : (N : Names) (len : ℕ) (S : State) → Unfit N len S (rest s) → going N len s S ≡ refused (misplaced x.at)
+  pub unfit_word : (N : Names) (len : ℕ) (S : State) → Unfit N len S (rest s) → going N len s S ≡ refused (misplaced x.at)
   unfolding going
-  unfit-word N len S h =
+  unfit_word N len S h =
       ap (λ a. read_on N len (rest_from a s.words) s.taken s.acts S) e
       ∙ ap (after_word x.at s.taken s.acts (read_on N len _)) (subst (λ a. Unfit N len S (rest_from a s.words)) e h)
 

@@ -38,15 +38,15 @@ unfolding going
 reading_ends N len r p e = ap (λ a. read_on N len (rest_from a r.words) r.taken r.acts (have [] nothing p)) e
 
 module _ (N : Names) (text : List ℕ) (s : Reader) (e : read N text ≡ going N (length text) s (want [] nothing)) where
-  pub whole-refused : (f : TextFault) → ProgRefused choice N (length text) 0 s f → Tells f (read N text)
-  whole-refused f x = refusal f _ _ e (x [] nothing refl)
+  pub whole_refused : (f : TextFault) → ProgRefused choice N (length text) 0 s f → Tells f (read N text)
+  whole_refused f x = refusal f _ _ e (x [] nothing refl)
 
   module _ (t : Reader) (i : ℕ) (r : ProgRead choice N (length text) 0 s t i) where
-    pub whole-read : t.ahead ≡ None → read N text ≡ tree (prog_at t.tree i)
-    whole-read h = e ∙ (r.on [] nothing refl ∙ reading_ends N (length text) t (prog_at t.tree i) h)
+    pub whole_read : t.ahead ≡ None → read N text ≡ tree (prog_at t.tree i)
+    whole_read h = e ∙ (r.on [] nothing refl ∙ reading_ends N (length text) t (prog_at t.tree i) h)
 
-    pub whole-unplaced : (x : Token) → t.ahead ≡ Some x → (f : TextFault) → Unplaced t (length text) f → Tells f (read N text)
-    whole-unplaced x h f u =
+    pub whole_unplaced : (x : Token) → t.ahead ≡ Some x → (f : TextFault) → Unplaced t (length text) f → Tells f (read N text)
+    whole_unplaced x h f u =
         refusal f _ _ (e ∙ r.on [] nothing refl)
         (u N (have [] nothing (prog_at t.tree i)) (whole_unfit N (prog_at t.tree i) (rest t) (said_token x) (left t.words) (length text) (ap (λ a. rest_from a t.words) h) r.stops))
 

@@ -7,8 +7,8 @@ use Rattle.tree.specs.declared.node.Node.TheVariants.{Act, Test, Seq, Alt, Star}
 use Rattle.tree.specs.Trees.{prog_lower, ProgFalls}
 
 module _ {X : Type 0} (P : ℕ → X → Bool) (d : X) (xs : List X) (x : X) (falls : (i : ℕ) → i < length xs → P i (get_or xs i d) ≡ true) (low : P (length xs) x ≡ true) where
-  falls-push : (i : ℕ) → i < length (xs ++ x ∷ []) → P i (get_or (xs ++ x ∷ []) i d) ≡ true
-  falls-push i h =
+  falls_push : (i : ℕ) → i < length (xs ++ x ∷ []) → P i (get_or (xs ++ x ∷ []) i d) ≡ true
+  falls_push i h =
       elim (cases_lt i (length xs)) [
         | inl lt ↦ rw (get_or_append_left xs (x ∷ []) d i lt) (falls i lt)
         | inr ge ↦
@@ -17,9 +17,9 @@ module _ {X : Type 0} (P : ℕ → X → Bool) (d : X) (xs : List X) (x : X) (fa
       ]
 
   -- whether or not the entry was added
-  pub falls-grown : (b : Bool) (ys : List X) → ys ≡ cond b (xs ++ x ∷ []) xs → (i : ℕ) → i < length ys → P i (get_or ys i d) ≡ true
-  falls-grown true ys e = subst (λ l. (i : ℕ) → i < length l → P i (get_or l i d) ≡ true) (sym e) falls-push
-  falls-grown false ys e = subst (λ l. (i : ℕ) → i < length l → P i (get_or l i d) ≡ true) (sym e) falls
+  pub falls_grown : (b : Bool) (ys : List X) → ys ≡ cond b (xs ++ x ∷ []) xs → (i : ℕ) → i < length ys → P i (get_or ys i d) ≡ true
+  falls_grown true ys e = subst (λ l. (i : ℕ) → i < length l → P i (get_or l i d) ≡ true) (sym e) falls_push
+  falls_grown false ys e = subst (λ l. (i : ℕ) → i < length l → P i (get_or l i d) ≡ true) (sym e) falls
 
 -- more conditions do no harm
 lower_more : (n m i : ℕ) (x : Node) → n ≤ m → prog_lower n i x ≡ true → prog_lower m i x ≡ true

@@ -10,8 +10,8 @@ module _ (w : List ℕ) (i : ℕ) (so_far : all_name_bytes (drop i w) ≡ all_na
   pub other_byte : i < length w → is_name_byte (get_or w i 0) ≡ false → false ≡ all_name_bytes w
   other_byte h e = sym (step h ∙ ap (λ t. t && all_name_bytes (drop (i + 1) w)) e)
 
-  pub name-byte : i < length w → is_name_byte (get_or w i 0) ≡ true → all_name_bytes (drop (i + 1) w) ≡ all_name_bytes w
-  name-byte h e = sym (step h ∙ ap (λ t. t && all_name_bytes (drop (i + 1) w)) e)
+  pub name_byte : i < length w → is_name_byte (get_or w i 0) ≡ true → all_name_bytes (drop (i + 1) w) ≡ all_name_bytes w
+  name_byte h e = sym (step h ∙ ap (λ t. t && all_name_bytes (drop (i + 1) w)) e)
 
   pub all_read : length w ≤ i → true ≡ all_name_bytes w
   all_read h = sym (sym so_far ∙ ap all_name_bytes (drop_all i w h))

@@ -29,20 +29,20 @@ place_start None = refl
 place_start (Some k) = ap Some (omega arith)
 
 module _ {V : Type 0} (f : V → List ℕ) (vs : List V) (w : List ℕ) (i : ℕ) (so_far : position (map f vs) w ≡ further i (position (drop i (map f vs)) w)) where
-  place-step : (x : V) → i < length vs → x ≡ get_or vs i x → (t : Bool) → same_word (f x) w ≡ t →
+  place_step : (x : V) → i < length vs → x ≡ get_or vs i x → (t : Bool) → same_word (f x) w ≡ t →
       position (map f vs) w ≡ further i (elim t [ true ↦ Some 0 | false ↦ one_on (position (drop (i + 1) (map f vs)) w) ])
-  place-step x h e t s =
+  place_step x h e t s =
       let l : i < length (map f vs) = simp length-map h in
       so_far
       ∙ (ap (λ xs. further i (position xs w)) (drop_more (map f vs) i [] l)
       ∙ ap (λ b. further i (elim b [ true ↦ Some 0 | false ↦ one_on (position (drop (i + 1) (map f vs)) w) ])) (ap (λ v. same_word v w) (sym (name_at f vs i x h e)) ∙ s))
 
   pub place_found : (x : V) → i < length vs → x ≡ get_or vs i x → same_word (f x) w ≡ true → Some i ≡ position (map f vs) w
-  place_found x h e s = sym (place-step x h e true s ∙ ap Some (add-zero i))
+  place_found x h e s = sym (place_step x h e true s ∙ ap Some (add-zero i))
 
-  pub place-further : (x : V) → i < length vs → x ≡ get_or vs i x → same_word (f x) w ≡ false →
+  pub place_further : (x : V) → i < length vs → x ≡ get_or vs i x → same_word (f x) w ≡ false →
       position (map f vs) w ≡ further (i + 1) (position (drop (i + 1) (map f vs)) w)
-  place-further x h e s = place-step x h e false s ∙ one_further (position (drop (i + 1) (map f vs)) w)
+  place_further x h e s = place_step x h e false s ∙ one_further (position (drop (i + 1) (map f vs)) w)
     where
       one_further : (o : Option ℕ) → further i (one_on o) ≡ further (i + 1) o
       one_further None = refl

@@ -5,4 +5,4 @@ use Rattle.records.proofs.split.Goals as goal
 pub returns : goal.returns
 returns c =
     front_whole c.args.bytes.now c.join-n.result _ _ _ (search rules) (search rules) c.join-n.ensures c.join-kind.ensures
-    c.split-at.ensures.front c.split-at.ensures.back
+    c.split_at.ensures.front c.split_at.ensures.back

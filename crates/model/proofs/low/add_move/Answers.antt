@@ -2,7 +2,7 @@ use Rattle.std.proofs.Common.{◌≡◌, ◌<◌, true, length, set, Some, ◌�
 use Rattle.lowest.specs.Listed.{move_place, move_in}
 use Rattle.lowest.specs.ListedViews.{listed_moves}
 use Rattle.model.specs.Stands.{LowestStands, ListedStand}
-use Rattle.model.proofs.Tables.{move-more, place_within}
+use Rattle.model.proofs.Tables.{move_more, place_within}
 use Rattle.model.proofs.low.add_move.Goals as goal
 
 pub returns-in-Listed : goal.returns-in-Listed
@@ -25,7 +25,7 @@ returns-in-Listed c = λ h k s f.
       valuations = search rules;
       moves = λ x a e.
           ap₂ (λ n l. move_in n l x a e) c.add-move.ensures.rest.acts ms
-          ∙ move-more old.acts (listed_moves old) k.moves c.args.from c.args.act c.args.reaction c.args.after ha he within st.moves x a e;
+          ∙ move_more old.acts (listed_moves old) k.moves c.args.from c.args.act c.args.reaction c.args.after ha he within st.moves x a e;
       no_rules = search rules;
       no_changes = search rules;
     }

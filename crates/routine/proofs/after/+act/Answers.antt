@@ -1,6 +1,6 @@
 use Rattle.std.proofs.Common.{◌∙◌, rules}
 use Rattle.tree.specs.Held.{prog_at}
-use Rattle.routine.proofs.Acts.{act_is, act_of_two, lone_act, no_more_acts, act-in-first, act-in-second}
+use Rattle.routine.proofs.Acts.{act_is, act_of_two, lone_act, no_more_acts, act_in_first, act_in_second}
 use Rattle.routine.proofs.after.+act.Goals as goal
 
 pub returns-then-word-eq0 : goal.returns-then-word-eq0
@@ -18,11 +18,11 @@ returns-in-Star t c = c.act.ensures ∙ act_is c.args.tree.now c.args.i c.args.w
 pub returns-then-word-by : goal.returns-then-word-by
 returns-then-word-by t c =
     c.act-then-word-by.ensures
-    ∙ (act-in-first (prog_at c.args.tree.now c.in-Seq.a) (prog_at c.args.tree.now c.in-Seq.b) c.args.word _ c.requires.low (c.requires.known c.in-Seq.a (search rules)) c.if-word-by.true
+    ∙ (act_in_first (prog_at c.args.tree.now c.in-Seq.a) (prog_at c.args.tree.now c.in-Seq.b) c.args.word _ c.requires.low (c.requires.known c.in-Seq.a (search rules)) c.if-word-by.true
     ∙ act_of_two c.args.tree.now c.args.i c.args.word c.in-Seq.a c.in-Seq.b c.node-at.result c.node-at.ensures.is c.in-Seq.is)
 
 pub returns-else-word-by : goal.returns-else-word-by
 returns-else-word-by t c =
     c.act-else-word-by.ensures
-    ∙ (act-in-second (prog_at c.args.tree.now c.in-Seq.a) (prog_at c.args.tree.now c.in-Seq.b) c.args.word _ c.requires.low (c.requires.known c.in-Seq.a (search rules)) c.if-word-by.false
+    ∙ (act_in_second (prog_at c.args.tree.now c.in-Seq.a) (prog_at c.args.tree.now c.in-Seq.b) c.args.word _ c.requires.low (c.requires.known c.in-Seq.a (search rules)) c.if-word-by.false
     ∙ act_of_two c.args.tree.now c.args.i c.args.word c.in-Seq.a c.in-Seq.b c.node-at.result c.node-at.ensures.is c.in-Seq.is)

@@ -1,7 +1,7 @@
 use Rattle.std.proofs.Common.{ap, subst, rules}
 use Rattle.std.specs.Option.{option_map}
 use Rattle.text.specs.Parse.{ReadAs}
-use Rattle.jobfile.proofs.Hearing.{heard-text}
+use Rattle.jobfile.proofs.Hearing.{heard_text}
 use Rattle.jobfile.proofs.jobfile.reading.hear.Goals as goal
 
 pub returns : goal.returns
@@ -11,4 +11,4 @@ returns c = λ k s.
     let p = c.in-ok-new.new in
     let read-facts = subst (λ x. ReadAs x c.acts.result.now t p) c.facts.ensures c.in-ok-new.ensures in
     let read-both = subst (λ x. ReadAs d.facts x t p) c.acts.ensures read-facts in
-    heard-text d k s _ t (ap (λ o. option_map (λ x. x.now) o) c.in-Some.is) c.args.parsed p read-both
+    heard_text d k s _ t (ap (λ o. option_map (λ x. x.now) o) c.in-Some.is) c.args.parsed p read-both

@@ -5,7 +5,7 @@ use Rattle.jobfile.specs.Heard.{ParsedStands, program_of}
 use Rattle.jobfile.specs.Verdict.{listen, judge, ended_routine}
 use Rattle.jobfile.proofs.Formatting.{turn_fit}
 use Rattle.jobfile.proofs.Hearing.{parsed_more, refused_too}
-use Rattle.jobfile.proofs.Judging.{turn_rest, begin_rest, verdict_begun, not_empty, judge-on, judge-off, judge-unheard, judge-complete}
+use Rattle.jobfile.proofs.Judging.{turn_rest, begin_rest, verdict_begun, not_empty, judge_on, judge_off, judge_unheard, judge_complete}
 use Rattle.jobfile.proofs.jobfile.reading.modelled.Goals as goal
 
 pub loop-rest-init : goal.loop-rest-init
@@ -21,7 +21,7 @@ returns-in-err-more c =
     let some : 0 < length c.loop-rest.rest.now = not_empty c.loop-rest.rest.now c.loop-rest-test.ensures in
     rw (p.1, p.2) (elim (c.in-err-more.ensures inv.0 inv.1) [
       | inl m ↦ inl m
-      | inr e ↦ inr (sym inv.3.2 ∙ judge-off c.loop-rest.draft.head inv.0 _ (length c.args.file.now) inv.3.0 c.loop-rest.rest.now _ some inv.3.1 e)
+      | inr e ↦ inr (sym inv.3.2 ∙ judge_off c.loop-rest.draft.head inv.0 _ (length c.args.file.now) inv.3.0 c.loop-rest.rest.now _ some inv.3.1 e)
     ])
 
 pub returns-in-err-parsed : goal.returns-in-err-parsed
@@ -33,7 +33,7 @@ returns-in-err-parsed c =
     let item = with_item inv.0 t.0 in
     let old = program_of c.loop-rest.parsed in
     rw (p.1, p.2) (refused_too _ _ _ (λ f e. sym inv.3.2 ∙
-    judge-unheard c.loop-rest.draft.head inv.0 old (length c.args.file.now) inv.3.0 c.loop-rest.rest.now t.0 _ f some inv.3.1 t.1
+    judge_unheard c.loop-rest.draft.head inv.0 old (length c.args.file.now) inv.3.0 c.loop-rest.rest.now t.0 _ f some inv.3.1 t.1
     (ap (λ x. listen x item old) (sym t.2) ∙ e)) (c.in-err-parsed.ensures item t.3))
 
 pub loop-rest-smaller : goal.loop-rest-smaller
@@ -55,7 +55,7 @@ loop-rest-preserved c =
     let old = program_of c.loop-rest.parsed in
     let new = program_of c.in-ok-parsed.parsed in
     let w = c.in-ok-parsed.ensures item t.3 in
-    let o = judge-on h inv.0 old end inv.3.0 bytes t.0 rest new some inv.3.1 t.1 (ap (λ x. listen x item old) (sym t.2) ∙ w.0) in (
+    let o = judge_on h inv.0 old end inv.3.0 bytes t.0 rest new some inv.3.1 t.1 (ap (λ x. listen x item old) (sym t.2) ∙ w.0) in (
       item,
       t.3,
       parsed_more h inv.0 t.0 _ c.loop-rest.parsed c.in-ok-parsed.parsed (turn_fit h inv.0 _ bytes t.0 rest t.1) (sym t.2) inv.2 w.1,
@@ -70,7 +70,7 @@ returns-in-Some c =
     let h = c.loop-rest.draft.head in
     let end = length c.args.file.now in
     let facts = (subst (λ o. ParsedStands o inv.0) c.in-Some.is inv.2).2 in
-    let ends = judge-complete h inv.0 (program_of c.loop-rest.parsed) end inv.3.0 c.loop-rest.rest.now _ inv.3.2 none k.0 in
+    let ends = judge_complete h inv.0 (program_of c.loop-rest.parsed) end inv.3.0 c.loop-rest.rest.now _ inv.3.2 none k.0 in
     (h, inv.0, k.1, facts, ends ∙ ap (λ o. ended_routine h inv.0 end (program_of o)) c.in-Some.is)
 
 pub returns : goal.returns
@@ -80,5 +80,5 @@ returns c =
     let k = c.in-ok-model.ensures inv.0 inv.1 in
     let h = c.loop-rest.draft.head in
     let end = length c.args.file.now in
-    let ends = judge-complete h inv.0 (program_of c.loop-rest.parsed) end inv.3.0 c.loop-rest.rest.now _ inv.3.2 none k.0 in
+    let ends = judge_complete h inv.0 (program_of c.loop-rest.parsed) end inv.3.0 c.loop-rest.rest.now _ inv.3.2 none k.0 in
     inr (ends ∙ ap (λ o. ended_routine h inv.0 end (program_of o)) c.in-None.is)

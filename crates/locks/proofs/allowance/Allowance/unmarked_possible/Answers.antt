@@ -1,7 +1,7 @@
 use Rattle.std.proofs.Common.{◌<◌, not, ◌&&◌, sym, arith}
 use Rattle.std.proofs.lemmas.Bool.{and_from, not_from_false}
 use Rattle.locks.specs.Allowed.{marked}
-use Rattle.locks.proofs.AnyBelow.{any_from}
+use Rattle.locks.specs.AnyBelow.{any_from}
 use Rattle.locks.proofs.allowance.Allowance.unmarked_possible.Goals as goal
 
 pub returns-then-not-has : goal.returns-then-not-has

@@ -3,16 +3,16 @@ use Rattle.std.proofs.lemmas.Nat.{mul-add-lt}
 use Rattle.lowest.proofs.Tables.{each_set}
 use Rattle.lowest.proofs.listed.ListedLock.add_move.Goals as goal
 
-pub index-mut-requires : goal.index-mut-requires
-index-mut-requires c =
+pub index_mut-requires : goal.index_mut-requires
+index_mut-requires c =
     let l = c.args.self.now in
     let h : c.args.state < l.states = search rules in
     let i : c.args.act < l.acts = search rules in
     let j : c.args.reaction < 8 = search rules in
     omega (arith, mul-add-lt c.args.state l.acts c.args.act l.states h i, c.place-place.ensures, l.sizes.1)
 
-pub invariant-of-self : goal.invariant-of-self
-invariant-of-self c =
+pub invariant_of-self : goal.invariant_of-self
+invariant_of-self c =
     let l = c.args.self.now in (
       search rules,
       (

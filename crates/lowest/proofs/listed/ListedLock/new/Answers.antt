@@ -2,8 +2,8 @@ use Rattle.std.proofs.Common.{ℕ, ◌<◌, List, get_or, None, Option, unwrap_o
 use Rattle.lowest.proofs.Tables.{getD_replicate_same}
 use Rattle.lowest.proofs.listed.ListedLock.new.Goals as goal
 
-pub invariant-of-result : goal.invariant-of-result
-invariant-of-result c =
+pub invariant_of-result : goal.invariant_of-result
+invariant_of-result c =
     let some : 0 < c.args.states = search rules in (
       search rules,
       (
@@ -13,7 +13,7 @@ invariant-of-result c =
           (
             (λ i.
                 subst (λ (x : ℕ). x < c.args.states)
-                (sym (ap (λ (xs : List (Option ℕ)). unwrap_or (get_or xs i None) 0) c.in-ok-moves.ensures.0
+                (sym (ap (λ (xs : List (Option ℕ)). unwrap_or (get_or xs i None) 0) c.in_ok-moves.ensures.0
                 ∙ ap (λ (x : Option ℕ). unwrap_or x 0) (getD_replicate_same _ i None)))
                 some),
             tt,

@@ -2,7 +2,7 @@ use Rattle.std.proofs.Common.{◌≡◌, unwrap_or, sym, ap, ◌∙◌, subst, r
 use Rattle.std.specs.Option.{option_map}
 use Rattle.std.proofs.lemmas.Result.{err_from_is_err_and}
 use Rattle.model.specs.Stands.{LowestStands}
-use Rattle.model.proofs.Ending.{ends_stuck, ends-layer, ends-well, pile-is-said, first_or_none}
+use Rattle.model.proofs.Ending.{ends_stuck, ends_layer, ends_well, pile_is_said, first_or_none}
 use Rattle.model.proofs.draft.Draft.close.Goals as goal
 
 pub returns-in-err-live : goal.returns-in-err-live
@@ -16,7 +16,7 @@ returns-in-err-lock c = λ k s.
     let live = c.in-ok-live.live in
     let st : LowestStands live.lowest c.args.self.head k = subst (λ l. LowestStands l c.args.self.head k) (sym c.in-ok-live.ensures) s.lowest in
     let most = c.unwrap-or-most.ensures ∙ (ap (λ o. unwrap_or o 0) s.allowance ∙ first_or_none k) in
-    rw (p.1, p.2) (ends-layer live.lowest c.args.self.head k c.args.length st (sym (c.if-lacks.ensures k s)) live.live c.unwrap-or-most.result most _ c.in-err-lock.ensures)
+    rw (p.1, p.2) (ends_layer live.lowest c.args.self.head k c.args.length st (sym (c.if-lacks.ensures k s)) live.live c.unwrap-or-most.result most _ c.in-err-lock.ensures)
 
 pub returns : goal.returns
 returns c = λ k s.
@@ -24,9 +24,9 @@ returns c = λ k s.
     let st : LowestStands live.lowest c.args.self.head k = subst (λ l. LowestStands l c.args.self.head k) (sym c.in-ok-live.ensures) s.lowest in
     let most = c.unwrap-or-most.ensures ∙ (ap (λ o. unwrap_or o 0) s.allowance ∙ first_or_none k) in
     let there = sym (c.if-lacks.ensures k s) in (
-      ends-well live.lowest c.args.self.head k c.args.length st there live.live c.unwrap-or-most.result most c.in-ok-lock.ensures.0,
+      ends_well live.lowest c.args.self.head k c.args.length st there live.live c.unwrap-or-most.result most c.in-ok-lock.ensures.0,
       record {
-        lock = c.in-ok-lock.ensures.1 ∙ pile-is-said live.lowest c.args.self.head k c.args.length st there c.args.self.marks s.marks c.unwrap-or-most.result most;
+        lock = c.in-ok-lock.ensures.1 ∙ pile_is_said live.lowest c.args.self.head k c.args.length st there c.args.self.marks s.marks c.unwrap-or-most.result most;
         facts = s.facts;
         acts = s.acts;
         marks = s.marks;

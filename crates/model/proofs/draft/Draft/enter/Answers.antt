@@ -4,7 +4,7 @@ use Rattle.items.specs.Layout.Entry.{mark}
 use Rattle.locks.specs.Allowed.{marks_list, marked_in}
 use Rattle.model.specs.Contents.{with_item, marked_of}
 use Rattle.model.specs.Stands.{Fit}
-use Rattle.model.proofs.Tables.{mark-more}
+use Rattle.model.proofs.Tables.{mark_more}
 use Rattle.model.proofs.draft.Draft.enter.Goals as goal
 
 pub returns-in-Mark : goal.returns-in-Mark
@@ -30,7 +30,7 @@ returns-in-Mark c = record {
         moves = search rules;
         marks = λ x y.
             ap (λ l. marked_in l x y) ms
-            ∙ (mark-more (marks_list old) k.marks a e ha he within s.marks x y ∙ ap (λ i. marked_of (with_item k i).marks x y) (sym is));
+            ∙ (mark_more (marks_list old) k.marks a e ha he within s.marks x y ∙ ap (λ i. marked_of (with_item k i).marks x y) (sym is));
         allowance = search rules;
         text = search rules;
       };

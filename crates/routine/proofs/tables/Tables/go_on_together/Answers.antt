@@ -3,7 +3,7 @@ use Rattle.std.proofs.lemmas.List.{get_or_read}
 use Rattle.golog.specs.Points.{goes_on, valuation}
 use Rattle.routine.specs.Sets.{has}
 use Rattle.routine.specs.Kept.{tables_prog}
-use Rattle.routine.proofs.Unions.{joined-more, left_out}
+use Rattle.routine.proofs.Unions.{joined_more, left_out}
 use Rattle.routine.proofs.tables.Tables.go_on_together.Goals as goal
 use Rattle.routine.proofs.tables.Tables.go_on_together.Goals.{then-contains, else-contains}
 
@@ -22,7 +22,7 @@ loop-valuation-preserved c j h =
       | then-contains w ↦
           ap (λ s. has s j) w.set-is
           ∙ (w.union-set.ensures j h
-          ∙ joined-more a b v (has c.loop-valuation.set j) (c.loop-valuation.invariant j h) (has g j) (sym first ∙ w.if-contains.true) (ap (λ s. has s j) e ∙ t.onward v j (l, h)))
+          ∙ joined_more a b v (has c.loop-valuation.set j) (c.loop-valuation.invariant j h) (has g j) (sym first ∙ w.if-contains.true) (ap (λ s. has s j) e ∙ t.onward v j (l, h)))
       | else-contains w ↦
           ap (λ s. has s j) w.set-is ∙ left_out a b v (has c.loop-valuation.set j) (c.loop-valuation.invariant j h) (sym first ∙ w.if-contains.false)
     ]

@@ -3,7 +3,7 @@ use Rattle.locks.specs.Meaning.{any_below}
 use Rattle.golog.specs.Points.{next, valuation}
 use Rattle.routine.specs.Sets.{has}
 use Rattle.routine.specs.Kept.{tables_prog}
-use Rattle.routine.proofs.Unions.{joined-more, left_out, together_is}
+use Rattle.routine.proofs.Unions.{joined_more, left_out, together_is}
 use Rattle.routine.proofs.tables.Tables.together.Goals as goal
 use Rattle.routine.proofs.tables.Tables.together.Goals.{then-contains, else-contains}
 
@@ -18,7 +18,7 @@ loop-valuation-preserved c j h =
       | then-contains w ↦
           ap (λ s. has s j) w.set-is
           ∙ (w.union-set.ensures j h
-          ∙ joined-more a b v (has c.loop-valuation.set j) (c.loop-valuation.invariant j h) (has c.row-next.result.next j) (sym first ∙ w.if-contains.true) (c.row-next.ensures.1 j h))
+          ∙ joined_more a b v (has c.loop-valuation.set j) (c.loop-valuation.invariant j h) (has c.row-next.result.next j) (sym first ∙ w.if-contains.true) (c.row-next.ensures.1 j h))
       | else-contains w ↦
           ap (λ s. has s j) w.set-is ∙ left_out a b v (has c.loop-valuation.set j) (c.loop-valuation.invariant j h) (sym first ∙ w.if-contains.false)
     ]

@@ -1,5 +1,5 @@
 use Rattle.std.proofs.Common.{◌∙◌, rules}
-use Rattle.text.proofs.Cutting.{gap_all, gap-lone}
+use Rattle.text.proofs.Cutting.{gap_all, gap_lone}
 use Rattle.text.proofs.lexer.Words.next.Goals as goal
 
 pub returns-then-at-text : goal.returns-then-at-text
@@ -7,4 +7,4 @@ returns-then-at-text c = c.word-start-at.ensures.skips ∙ gap_all c.args.self.n
 
 pub returns-in-Lone : goal.returns-in-Lone
 returns-in-Lone c =
-    c.word-start-at.ensures.skips ∙ gap-lone c.args.self.now.text.now c.word-start-at.result (search rules) _ c.in-Lone.ensures
+    c.word-start-at.ensures.skips ∙ gap_lone c.args.self.now.text.now c.word-start-at.result (search rules) _ c.in-Lone.ensures

@@ -1,11 +1,11 @@
 use Rattle.std.proofs.Common.{◌≡◌, length, get_or, sym, ap, ◌∙◌, arith, rules}
 use Rattle.golog.specs.Words.{byte_kind}
 use Rattle.golog.specs.Words.Byte.{part}
-use Rattle.text.proofs.Cutting.{kind_part, gap-part, run_more, run_ends, run_all}
+use Rattle.text.proofs.Cutting.{kind_part, gap_part, run_more, run_ends, run_all}
 use Rattle.text.proofs.lexer.cutting.run_end.Goals as goal
 
 pub loop-i-init : goal.loop-i-init
-loop-i-init c = gap-part c.args.text.now c.args.start c.requires.0 (sym c.requires.1)
+loop-i-init c = gap_part c.args.text.now c.args.start c.requires.0 (sym c.requires.1)
 
 pub returns-in-default : goal.returns-in-default
 returns-in-default c =

@@ -8,42 +8,42 @@ use Rattle.text.specs.Rest.{names_of}
 use Rattle.text.specs.Steps.{Taken, OverDeep}
 use Rattle.text.specs.Progs.{ProgRead, GuardRead, GuardRefused}
 use Rattle.text.proofs.Stepping.{takes_yes, takes_no}
-use Rattle.text.proofs.Programs.{item-read, item-over, star-joined, sequence-read, sequence-over, sequence-refused, seq-joined, choice-read, choice-over, choice-refused, alt-joined, inside-refused, inside-unclosed, inside-read, test-refused, test_read, round-over, round-refused, round-read, if-refused, then-refused, else-refused, if-cond-there, if-then-there, if-read, while-refused, do-refused, while-cond-there, while-read}
+use Rattle.text.proofs.Programs.{item_read, item_over, star_joined, sequence_read, sequence_over, sequence_refused, seq_joined, choice_read, choice_over, choice_refused, alt_joined, inside_refused, inside_unclosed, inside_read, test_refused, test_read, round_over, round_refused, round_read, if_refused, then_refused, else_refused, if_cond_there, if_then_there, if_read, while_refused, do_refused, while_cond_there, while_read}
 use Rattle.text.proofs.reader.Reader.+atom_choice_inside_item_sequence.Goals as goal
 
 pub item-returns-in-err-takes : goal.item-returns-in-err-takes
 item-returns-in-err-takes t c =
     let p = err_from_is_err_and c.from-residual-in-err-takes.result c.from-residual-in-err-takes.ensures.1 in
-    rw (p.1, p.2) (item-over (names_of c.args.known) c.args.known.end c.args.depth c.requires c.args.self.now c.atom.new.self _ _ c.in-ok-part.ensures c.loop-self.self c.loop-self.invariant
+    rw (p.1, p.2) (item_over (names_of c.args.known) c.args.known.end c.args.depth c.requires c.args.self.now c.atom.new.self _ _ c.in-ok-part.ensures c.loop-self.self c.loop-self.invariant
     c.in-err-takes.field-0.0 c.in-err-takes.ensures)
 
 pub item-loop-self-preserved : goal.item-loop-self-preserved
 item-loop-self-preserved t c =
-    star-joined (names_of c.args.known) c.args.known.end c.args.depth c.requires c.atom.new.self c.in-ok-part.part c.loop-self.self c.loop-self.part c.loop-self.invariant
+    star_joined (names_of c.args.known) c.args.known.end c.args.depth c.requires c.atom.new.self c.in-ok-part.part c.loop-self.self c.loop-self.part c.loop-self.invariant
     c.takes.new.self c.node.new.self _ (takes_yes _ c.loop-self.self c.takes.new.self mark.Star c.if-branch.true c.in-ok-takes.ensures) c.in-ok-part-2.ensures
 
 pub item-returns : goal.item-returns
 item-returns t c =
     let no = takes_no _ c.loop-self.self c.takes.new.self mark.Star c.if-branch.false c.in-ok-takes.ensures in
     subst (λ u. ProgRead item (names_of c.args.known) c.args.known.end c.args.depth c.args.self.now u c.loop-self.part) (sym no.0)
-    (item-read (names_of c.args.known) c.args.known.end c.args.depth c.requires c.args.self.now c.atom.new.self _ _ c.in-ok-part.ensures c.loop-self.self c.loop-self.invariant no.1)
+    (item_read (names_of c.args.known) c.args.known.end c.args.depth c.requires c.args.self.now c.atom.new.self _ _ c.in-ok-part.ensures c.loop-self.self c.loop-self.invariant no.1)
 
 pub sequence-returns-in-err-takes : goal.sequence-returns-in-err-takes
 sequence-returns-in-err-takes t c =
     let p = err_from_is_err_and c.from-residual-in-err-takes.result c.from-residual-in-err-takes.ensures.1 in
-    rw (p.1, p.2) (sequence-over (names_of c.args.known) c.args.known.end c.args.depth c.requires c.args.self.now c.item.new.self _ _ c.in-ok-left.ensures c.loop-self.self c.loop-self.invariant
+    rw (p.1, p.2) (sequence_over (names_of c.args.known) c.args.known.end c.args.depth c.requires c.args.self.now c.item.new.self _ _ c.in-ok-left.ensures c.loop-self.self c.loop-self.invariant
     c.in-err-takes.field-0.0 c.in-err-takes.ensures)
 
 pub sequence-returns-in-err-right : goal.sequence-returns-in-err-right
 sequence-returns-in-err-right t c =
     let p = err_from_is_err_and c.from-residual-in-err-right.result c.from-residual-in-err-right.ensures.1 in
-    rw (p.1, p.2) (sequence-refused (names_of c.args.known) c.args.known.end c.args.depth c.requires c.args.self.now c.item.new.self _ _ c.in-ok-left.ensures c.loop-self.self c.loop-self.invariant
+    rw (p.1, p.2) (sequence_refused (names_of c.args.known) c.args.known.end c.args.depth c.requires c.args.self.now c.item.new.self _ _ c.in-ok-left.ensures c.loop-self.self c.loop-self.invariant
     c.takes.new.self (takes_yes _ c.loop-self.self c.takes.new.self mark.Semicolon c.if-branch.true c.in-ok-takes.ensures)
     c.in-err-right.field-0.0 c.in-err-right.ensures)
 
 pub sequence-loop-self-preserved : goal.sequence-loop-self-preserved
 sequence-loop-self-preserved t c =
-    seq-joined (names_of c.args.known) c.args.known.end c.args.depth c.requires c.item.new.self c.in-ok-left.left c.loop-self.self c.loop-self.left c.loop-self.invariant
+    seq_joined (names_of c.args.known) c.args.known.end c.args.depth c.requires c.item.new.self c.in-ok-left.left c.loop-self.self c.loop-self.left c.loop-self.invariant
     c.takes.new.self _ c.node.new.self _ _ (takes_yes _ c.loop-self.self c.takes.new.self mark.Semicolon c.if-branch.true c.in-ok-takes.ensures)
     c.in-ok-right.ensures c.in-ok-left-2.ensures
 
@@ -51,7 +51,7 @@ pub sequence-returns : goal.sequence-returns
 sequence-returns t c =
     let no = takes_no _ c.loop-self.self c.takes.new.self mark.Semicolon c.if-branch.false c.in-ok-takes.ensures in
     subst (λ u. ProgRead sequence (names_of c.args.known) c.args.known.end c.args.depth c.args.self.now u c.loop-self.left) (sym no.0)
-    (sequence-read (names_of c.args.known) c.args.known.end c.args.depth c.requires c.args.self.now c.item.new.self _ _ c.in-ok-left.ensures c.loop-self.self c.loop-self.invariant no.1)
+    (sequence_read (names_of c.args.known) c.args.known.end c.args.depth c.requires c.args.self.now c.item.new.self _ _ c.in-ok-left.ensures c.loop-self.self c.loop-self.invariant no.1)
 
 pub choice-returns-in-err-left : goal.choice-returns-in-err-left
 choice-returns-in-err-left t c =
@@ -61,19 +61,19 @@ choice-returns-in-err-left t c =
 pub choice-returns-in-err-takes : goal.choice-returns-in-err-takes
 choice-returns-in-err-takes t c =
     let p = err_from_is_err_and c.from-residual-in-err-takes.result c.from-residual-in-err-takes.ensures.1 in
-    rw (p.1, p.2) (choice-over (names_of c.args.known) c.args.known.end c.args.depth c.requires c.args.self.now c.sequence.new.self _ _ c.in-ok-left.ensures c.loop-self.self c.loop-self.invariant
+    rw (p.1, p.2) (choice_over (names_of c.args.known) c.args.known.end c.args.depth c.requires c.args.self.now c.sequence.new.self _ _ c.in-ok-left.ensures c.loop-self.self c.loop-self.invariant
     c.in-err-takes.field-0.0 c.in-err-takes.ensures)
 
 pub choice-returns-in-err-right : goal.choice-returns-in-err-right
 choice-returns-in-err-right t c =
     let p = err_from_is_err_and c.from-residual-in-err-right.result c.from-residual-in-err-right.ensures.1 in
-    rw (p.1, p.2) (choice-refused (names_of c.args.known) c.args.known.end c.args.depth c.requires c.args.self.now c.sequence.new.self _ _ c.in-ok-left.ensures c.loop-self.self c.loop-self.invariant
+    rw (p.1, p.2) (choice_refused (names_of c.args.known) c.args.known.end c.args.depth c.requires c.args.self.now c.sequence.new.self _ _ c.in-ok-left.ensures c.loop-self.self c.loop-self.invariant
     c.takes.new.self (takes_yes _ c.loop-self.self c.takes.new.self mark.Bar c.if-branch.true c.in-ok-takes.ensures)
     c.in-err-right.field-0.0 c.in-err-right.ensures)
 
 pub choice-loop-self-preserved : goal.choice-loop-self-preserved
 choice-loop-self-preserved t c =
-    alt-joined (names_of c.args.known) c.args.known.end c.args.depth c.requires c.sequence.new.self c.in-ok-left.left c.loop-self.self c.loop-self.left c.loop-self.invariant
+    alt_joined (names_of c.args.known) c.args.known.end c.args.depth c.requires c.sequence.new.self c.in-ok-left.left c.loop-self.self c.loop-self.left c.loop-self.invariant
     c.takes.new.self _ c.node.new.self _ _ (takes_yes _ c.loop-self.self c.takes.new.self mark.Bar c.if-branch.true c.in-ok-takes.ensures)
     c.in-ok-right.ensures c.in-ok-left-2.ensures
 
@@ -81,67 +81,67 @@ pub choice-returns : goal.choice-returns
 choice-returns t c =
     let no = takes_no _ c.loop-self.self c.takes.new.self mark.Bar c.if-branch.false c.in-ok-takes.ensures in
     subst (λ u. ProgRead choice (names_of c.args.known) c.args.known.end c.args.depth c.args.self.now u c.loop-self.left) (sym no.0)
-    (choice-read (names_of c.args.known) c.args.known.end c.args.depth c.requires c.args.self.now c.sequence.new.self _ _ c.in-ok-left.ensures c.loop-self.self c.loop-self.invariant no.1)
+    (choice_read (names_of c.args.known) c.args.known.end c.args.depth c.requires c.args.self.now c.sequence.new.self _ _ c.in-ok-left.ensures c.loop-self.self c.loop-self.invariant no.1)
 
 pub inside-returns-in-err-part : goal.inside-returns-in-err-part
 inside-returns-in-err-part t c =
     let p = err_from_is_err_and c.from-residual.result c.from-residual.ensures.1 in
-    rw (p.1, p.2) (inside-refused (names_of c.args.known) c.args.known.end c.args.depth c.args.self.now c.args.mark c.in-err-part.field-0.0 c.in-err-part.ensures)
+    rw (p.1, p.2) (inside_refused (names_of c.args.known) c.args.known.end c.args.depth c.args.self.now c.args.mark c.in-err-part.field-0.0 c.in-err-part.ensures)
 
 pub inside-returns-in-err-close : goal.inside-returns-in-err-close
 inside-returns-in-err-close t c =
     let p = err_from_is_err_and c.from-residual-in-err-close.result c.from-residual-in-err-close.ensures.1 in
-    rw (p.1, p.2) (inside-unclosed (names_of c.args.known) c.args.known.end c.args.depth c.args.self.now c.args.mark c.choice.new.self _ c.in-ok-part.ensures c.in-err-close.field-0.0 c.in-err-close.ensures)
+    rw (p.1, p.2) (inside_unclosed (names_of c.args.known) c.args.known.end c.args.depth c.args.self.now c.args.mark c.choice.new.self _ c.in-ok-part.ensures c.in-err-close.field-0.0 c.in-err-close.ensures)
 
 pub inside-returns : goal.inside-returns
 inside-returns t c =
-    inside-read (names_of c.args.known) c.args.known.end c.args.depth c.args.self.now c.args.mark c.choice.new.self _ c.in-ok-part.ensures c.close.new.self c.in-ok-close.ensures
+    inside_read (names_of c.args.known) c.args.known.end c.args.depth c.args.self.now c.args.mark c.choice.new.self _ c.in-ok-part.ensures c.close.new.self c.in-ok-close.ensures
 
 pub atom-returns-in-err-c : goal.atom-returns-in-err-c
 atom-returns-in-err-c t c =
     let p = err_from_is_err_and c.from-residual.result c.from-residual.ensures.1 in
-    rw (p.1, p.2) (test-refused (names_of c.args.known) c.args.known.end c.args.depth c.requires c.args.self.now c.in-err-c.field-0.0
+    rw (p.1, p.2) (test_refused (names_of c.args.known) c.args.known.end c.args.depth c.requires c.args.self.now c.in-err-c.field-0.0
     (subst (λ w. GuardRefused (names_of c.args.known) c.args.known.end c.args.depth c.args.self.now (said w) mark.CloseSquare c.in-err-c.field-0.0) c.in-OpenSquare.is c.in-err-c.ensures))
 
 pub atom-returns-in-err-inner : goal.atom-returns-in-err-inner
 atom-returns-in-err-inner t c =
     let p = err_from_is_err_and c.from-residual-in-err-inner.result c.from-residual-in-err-inner.ensures.1 in
-    rw (p.1, p.2) (round-over (names_of c.args.known) c.args.known.end c.args.depth c.requires c.args.self.now c.in-err-inner.field-0.0
+    rw (p.1, p.2) (round_over (names_of c.args.known) c.args.known.end c.args.depth c.requires c.args.self.now c.in-err-inner.field-0.0
     (subst (λ w. OverDeep c.args.self.now (said w) c.args.depth c.in-err-inner.field-0.0) c.in-Open.is c.in-err-inner.ensures))
 
 pub atom-returns-in-err-i-2 : goal.atom-returns-in-err-i-2
 atom-returns-in-err-i-2 t c =
     let p = err_from_is_err_and c.from-residual-in-err-i-2.result c.from-residual-in-err-i-2.ensures.1 in
-    rw (p.1, p.2) (round-refused (names_of c.args.known) c.args.known.end c.args.depth c.requires c.args.self.now c.open.new.self _ c.in-ok-inner.ensures.0 c.in-ok-inner.ensures.1
+    rw (p.1, p.2) (round_refused (names_of c.args.known) c.args.known.end c.args.depth c.requires c.args.self.now c.open.new.self _ c.in-ok-inner.ensures.0 c.in-ok-inner.ensures.1
     (subst (λ w. Taken c.args.self.now c.open.new.self (said w)) c.in-Open.is c.in-ok-inner.ensures.2)
     c.in-err-i-2.field-0.0 c.in-err-i-2.ensures)
 
 pub atom-returns-in-err-c-2 : goal.atom-returns-in-err-c-2
 atom-returns-in-err-c-2 t c =
     let p = err_from_is_err_and c.from-residual-in-err-c-2.result c.from-residual-in-err-c-2.ensures.1 in
-    rw (p.1, p.2) (if-refused (names_of c.args.known) c.args.known.end c.args.depth c.requires c.args.self.now c.in-err-c-2.field-0.0
+    rw (p.1, p.2) (if_refused (names_of c.args.known) c.args.known.end c.args.depth c.requires c.args.self.now c.in-err-c-2.field-0.0
     (subst (λ w. GuardRefused (names_of c.args.known) c.args.known.end c.args.depth c.args.self.now (said w) mark.Then c.in-err-c-2.field-0.0) c.in-If.is c.in-err-c-2.ensures))
 
 pub atom-returns-in-err-p : goal.atom-returns-in-err-p
 atom-returns-in-err-p t c =
     let p = err_from_is_err_and c.from-residual-in-err-p.result c.from-residual-in-err-p.ensures.1 in
-    rw (p.1, p.2) (then-refused (names_of c.args.known) c.args.known.end c.args.depth c.requires c.args.self.now c.condition-in-If.new.self _
+    rw (p.1, p.2) (then_refused (names_of c.args.known) c.args.known.end c.args.depth c.requires c.args.self.now c.condition-in-If.new.self _
     (subst (λ w. GuardRead (names_of c.args.known) c.args.known.end c.args.depth c.args.self.now c.condition-in-If.new.self (said w) mark.Then c.in-ok-c-2.c) c.in-If.is c.in-ok-c-2.ensures)
     c.in-err-p.field-0.0 c.in-err-p.ensures)
 
 pub atom-returns-in-err-q : goal.atom-returns-in-err-q
 atom-returns-in-err-q t c =
     let p = err_from_is_err_and c.from-residual-in-err-q.result c.from-residual-in-err-q.ensures.1 in
-    rw (p.1, p.2) (else-refused (names_of c.args.known) c.args.known.end c.args.depth c.requires c.args.self.now c.condition-in-If.new.self _
+    rw (p.1, p.2) (else_refused (names_of c.args.known) c.args.known.end c.args.depth c.requires c.args.self.now c.condition-in-If.new.self _
     (subst (λ w. GuardRead (names_of c.args.known) c.args.known.end c.args.depth c.args.self.now c.condition-in-If.new.self (said w) mark.Then c.in-ok-c-2.c) c.in-If.is c.in-ok-c-2.ensures)
     c.inside-in-If.new.self _ c.in-ok-p.ensures c.in-err-q.field-0.0 c.in-err-q.ensures)
 
 pub atom-branch-self-requires : goal.atom-branch-self-requires
 atom-branch-self-requires t c = (
-  if-cond-there (names_of c.args.known) c.args.known.end c.args.depth c.requires c.args.self.now c.condition-in-If.new.self _
+  if_cond_there (names_of c.args.known) c.args.known.end c.args.depth c.requires c.args.self.now c.condition-in-If.new.self _
       (subst (λ w. GuardRead (names_of c.args.known) c.args.known.end c.args.depth c.args.self.now c.condition-in-If.new.self (said w) mark.Then c.in-ok-c-2.c) c.in-If.is c.in-ok-c-2.ensures)
       c.inside-in-If.new.self _ c.in-ok-p.ensures c.inside-in-If-2.new.self _ c.in-ok-q.ensures,
-  if-then-there (names_of c.args.known) c.args.known.end c.args.depth c.requires c.args.self.now c.condition-in-If.new.self _
+  if_then_there (names_of c.args.known) c.args.known.end c.args.depth c.requires c.args.self.now c.condition-in-If.new.self _
       (subst (λ w. GuardRead (names_of c.args.known) c.args.known.end c.args.depth c.args.self.now c.condition-in-If.new.self (said w) mark.Then c.in-ok-c-2.c) c.in-If.is c.in-ok-c-2.ensures)
       c.inside-in-If.new.self _ c.in-ok-p.ensures c.inside-in-If-2.new.self _ c.in-ok-q.ensures,
   c.in-ok-q.ensures.there,
@@ -150,19 +150,19 @@ atom-branch-self-requires t c = (
 pub atom-returns-in-err-c-3 : goal.atom-returns-in-err-c-3
 atom-returns-in-err-c-3 t c =
     let p = err_from_is_err_and c.from-residual-in-err-c-3.result c.from-residual-in-err-c-3.ensures.1 in
-    rw (p.1, p.2) (while-refused (names_of c.args.known) c.args.known.end c.args.depth c.requires c.args.self.now c.in-err-c-3.field-0.0
+    rw (p.1, p.2) (while_refused (names_of c.args.known) c.args.known.end c.args.depth c.requires c.args.self.now c.in-err-c-3.field-0.0
     (subst (λ w. GuardRefused (names_of c.args.known) c.args.known.end c.args.depth c.args.self.now (said w) mark.Do c.in-err-c-3.field-0.0) c.in-While.is c.in-err-c-3.ensures))
 
 pub atom-returns-in-err-p-2 : goal.atom-returns-in-err-p-2
 atom-returns-in-err-p-2 t c =
     let p = err_from_is_err_and c.from-residual-in-err-p-2.result c.from-residual-in-err-p-2.ensures.1 in
-    rw (p.1, p.2) (do-refused (names_of c.args.known) c.args.known.end c.args.depth c.requires c.args.self.now c.condition-in-While.new.self _
+    rw (p.1, p.2) (do_refused (names_of c.args.known) c.args.known.end c.args.depth c.requires c.args.self.now c.condition-in-While.new.self _
     (subst (λ w. GuardRead (names_of c.args.known) c.args.known.end c.args.depth c.args.self.now c.condition-in-While.new.self (said w) mark.Do c.in-ok-c-3.c) c.in-While.is c.in-ok-c-3.ensures)
     c.in-err-p-2.field-0.0 c.in-err-p-2.ensures)
 
 pub atom-repeat-requires : goal.atom-repeat-requires
 atom-repeat-requires t c = (
-  while-cond-there (names_of c.args.known) c.args.known.end c.args.depth c.requires c.args.self.now c.condition-in-While.new.self _
+  while_cond_there (names_of c.args.known) c.args.known.end c.args.depth c.requires c.args.self.now c.condition-in-While.new.self _
       (subst (λ w. GuardRead (names_of c.args.known) c.args.known.end c.args.depth c.args.self.now c.condition-in-While.new.self (said w) mark.Do c.in-ok-c-3.c) c.in-While.is c.in-ok-c-3.ensures)
       c.inside-in-While.new.self _ c.in-ok-p-2.ensures,
   c.in-ok-p-2.ensures.there,
@@ -176,20 +176,20 @@ atom-returns-in-ok-i t c =
 
 pub atom-returns-in-ok-i-2 : goal.atom-returns-in-ok-i-2
 atom-returns-in-ok-i-2 t c =
-    round-read (names_of c.args.known) c.args.known.end c.args.depth c.requires c.args.self.now c.open.new.self _ c.in-ok-inner.ensures.0 c.in-ok-inner.ensures.1
+    round_read (names_of c.args.known) c.args.known.end c.args.depth c.requires c.args.self.now c.open.new.self _ c.in-ok-inner.ensures.0 c.in-ok-inner.ensures.1
     (subst (λ w. Taken c.args.self.now c.open.new.self (said w)) c.in-Open.is c.in-ok-inner.ensures.2)
     c.inside.new.self _ c.in-ok-i-2.ensures
 
 pub atom-returns-in-ok-i-3 : goal.atom-returns-in-ok-i-3
 atom-returns-in-ok-i-3 t c =
-    if-read (names_of c.args.known) c.args.known.end c.args.depth c.requires c.args.self.now c.condition-in-If.new.self _
+    if_read (names_of c.args.known) c.args.known.end c.args.depth c.requires c.args.self.now c.condition-in-If.new.self _
     (subst (λ w. GuardRead (names_of c.args.known) c.args.known.end c.args.depth c.args.self.now c.condition-in-If.new.self (said w) mark.Then c.in-ok-c-2.c) c.in-If.is c.in-ok-c-2.ensures)
     c.inside-in-If.new.self _ c.in-ok-p.ensures c.inside-in-If-2.new.self _ c.in-ok-q.ensures
     c.branch-self.new.self _ c.in-ok-i-3.ensures
 
 pub atom-returns-in-ok-i-4 : goal.atom-returns-in-ok-i-4
 atom-returns-in-ok-i-4 t c =
-    while-read (names_of c.args.known) c.args.known.end c.args.depth c.requires c.args.self.now c.condition-in-While.new.self _
+    while_read (names_of c.args.known) c.args.known.end c.args.depth c.requires c.args.self.now c.condition-in-While.new.self _
     (subst (λ w. GuardRead (names_of c.args.known) c.args.known.end c.args.depth c.args.self.now c.condition-in-While.new.self (said w) mark.Do c.in-ok-c-3.c) c.in-While.is c.in-ok-c-3.ensures)
     c.inside-in-While.new.self _ c.in-ok-p-2.ensures
     c.repeat.new.self _ c.in-ok-i-4.ensures

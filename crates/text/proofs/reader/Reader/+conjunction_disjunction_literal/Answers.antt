@@ -11,25 +11,25 @@ use Rattle.text.specs.Rest.{names_of}
 use Rattle.text.specs.Steps.{Taken, OverDeep, OverDone}
 use Rattle.text.specs.Conds.{CondRead, CondTaken}
 use Rattle.text.proofs.Stepping.{takes_yes, takes_no, nameless_tells}
-use Rattle.text.proofs.Conditions.{constant_read, constant_refused, conjunction-read, conjunction-over, conjunction-refused, and-joined, disjunction-read, disjunction-over, disjunction-refused, or-joined, negation-read, negation-over, negation-refused, bracket-read, bracket-over, bracket-refused, bracket-unclosed, fact_is, fact_unknown, true_is, false_is}
+use Rattle.text.proofs.Conditions.{constant_read, constant_refused, conjunction_read, conjunction_over, conjunction_refused, and_joined, disjunction_read, disjunction_over, disjunction_refused, or_joined, negation_read, negation_over, negation_refused, bracket_read, bracket_over, bracket_refused, bracket_unclosed, fact_is, fact_unknown, true_is, false_is}
 use Rattle.text.proofs.reader.Reader.+conjunction_disjunction_literal.Goals as goal
 
 pub conjunction-returns-in-err-takes : goal.conjunction-returns-in-err-takes
 conjunction-returns-in-err-takes t c =
     let p = err_from_is_err_and c.from-residual-in-err-takes.result c.from-residual-in-err-takes.ensures.1 in
-    rw (p.1, p.2) (conjunction-over (names_of c.args.known) c.args.known.end c.args.depth c.requires c.args.self.now c.literal.new.self _ _ c.in-ok-left.ensures c.loop-self.self c.loop-self.invariant
+    rw (p.1, p.2) (conjunction_over (names_of c.args.known) c.args.known.end c.args.depth c.requires c.args.self.now c.literal.new.self _ _ c.in-ok-left.ensures c.loop-self.self c.loop-self.invariant
     c.in-err-takes.field-0.0 c.in-err-takes.ensures)
 
 pub conjunction-returns-in-err-right : goal.conjunction-returns-in-err-right
 conjunction-returns-in-err-right t c =
     let p = err_from_is_err_and c.from-residual-in-err-right.result c.from-residual-in-err-right.ensures.1 in
-    rw (p.1, p.2) (conjunction-refused (names_of c.args.known) c.args.known.end c.args.depth c.requires c.args.self.now c.literal.new.self _ _ c.in-ok-left.ensures c.loop-self.self c.loop-self.invariant
+    rw (p.1, p.2) (conjunction_refused (names_of c.args.known) c.args.known.end c.args.depth c.requires c.args.self.now c.literal.new.self _ _ c.in-ok-left.ensures c.loop-self.self c.loop-self.invariant
     c.takes.new.self (takes_yes _ c.loop-self.self c.takes.new.self And c.if-branch.true c.in-ok-takes.ensures)
     c.in-err-right.field-0.0 c.in-err-right.ensures)
 
 pub conjunction-loop-self-preserved : goal.conjunction-loop-self-preserved
 conjunction-loop-self-preserved t c =
-    and-joined (names_of c.args.known) c.args.known.end c.args.depth c.requires c.literal.new.self c.in-ok-left.left c.loop-self.self c.loop-self.left c.loop-self.invariant
+    and_joined (names_of c.args.known) c.args.known.end c.args.depth c.requires c.literal.new.self c.in-ok-left.left c.loop-self.self c.loop-self.left c.loop-self.invariant
     c.takes.new.self _ c.clause.new.self _ _ (takes_yes _ c.loop-self.self c.takes.new.self And c.if-branch.true c.in-ok-takes.ensures)
     c.in-ok-right.ensures c.in-ok-left-2.ensures
 
@@ -37,7 +37,7 @@ pub conjunction-returns : goal.conjunction-returns
 conjunction-returns t c =
     let no = takes_no _ c.loop-self.self c.takes.new.self And c.if-branch.false c.in-ok-takes.ensures in
     subst (λ u. CondRead conjunction (names_of c.args.known) c.args.known.end c.args.depth c.args.self.now u c.loop-self.left) (sym no.0)
-    (conjunction-read (names_of c.args.known) c.args.known.end c.args.depth c.requires c.args.self.now c.literal.new.self _ _ c.in-ok-left.ensures c.loop-self.self c.loop-self.invariant no.1)
+    (conjunction_read (names_of c.args.known) c.args.known.end c.args.depth c.requires c.args.self.now c.literal.new.self _ _ c.in-ok-left.ensures c.loop-self.self c.loop-self.invariant no.1)
 
 pub disjunction-returns-in-err-left : goal.disjunction-returns-in-err-left
 disjunction-returns-in-err-left t c =
@@ -47,19 +47,19 @@ disjunction-returns-in-err-left t c =
 pub disjunction-returns-in-err-takes : goal.disjunction-returns-in-err-takes
 disjunction-returns-in-err-takes t c =
     let p = err_from_is_err_and c.from-residual-in-err-takes.result c.from-residual-in-err-takes.ensures.1 in
-    rw (p.1, p.2) (disjunction-over (names_of c.args.known) c.args.known.end c.args.depth c.requires c.args.self.now c.conjunction.new.self _ _ c.in-ok-left.ensures c.loop-self.self c.loop-self.invariant
+    rw (p.1, p.2) (disjunction_over (names_of c.args.known) c.args.known.end c.args.depth c.requires c.args.self.now c.conjunction.new.self _ _ c.in-ok-left.ensures c.loop-self.self c.loop-self.invariant
     c.in-err-takes.field-0.0 c.in-err-takes.ensures)
 
 pub disjunction-returns-in-err-right : goal.disjunction-returns-in-err-right
 disjunction-returns-in-err-right t c =
     let p = err_from_is_err_and c.from-residual-in-err-right.result c.from-residual-in-err-right.ensures.1 in
-    rw (p.1, p.2) (disjunction-refused (names_of c.args.known) c.args.known.end c.args.depth c.requires c.args.self.now c.conjunction.new.self _ _ c.in-ok-left.ensures c.loop-self.self c.loop-self.invariant
+    rw (p.1, p.2) (disjunction_refused (names_of c.args.known) c.args.known.end c.args.depth c.requires c.args.self.now c.conjunction.new.self _ _ c.in-ok-left.ensures c.loop-self.self c.loop-self.invariant
     c.takes.new.self (takes_yes _ c.loop-self.self c.takes.new.self Or c.if-branch.true c.in-ok-takes.ensures)
     c.in-err-right.field-0.0 c.in-err-right.ensures)
 
 pub disjunction-loop-self-preserved : goal.disjunction-loop-self-preserved
 disjunction-loop-self-preserved t c =
-    or-joined (names_of c.args.known) c.args.known.end c.args.depth c.requires c.conjunction.new.self c.in-ok-left.left c.loop-self.self c.loop-self.left c.loop-self.invariant
+    or_joined (names_of c.args.known) c.args.known.end c.args.depth c.requires c.conjunction.new.self c.in-ok-left.left c.loop-self.self c.loop-self.left c.loop-self.invariant
     c.takes.new.self _ c.clause.new.self _ _ (takes_yes _ c.loop-self.self c.takes.new.self Or c.if-branch.true c.in-ok-takes.ensures)
     c.in-ok-right.ensures c.in-ok-left-2.ensures
 
@@ -67,7 +67,7 @@ pub disjunction-returns : goal.disjunction-returns
 disjunction-returns t c =
     let no = takes_no _ c.loop-self.self c.takes.new.self Or c.if-branch.false c.in-ok-takes.ensures in
     subst (λ u. CondRead disjunction (names_of c.args.known) c.args.known.end c.args.depth c.args.self.now u c.loop-self.left) (sym no.0)
-    (disjunction-read (names_of c.args.known) c.args.known.end c.args.depth c.requires c.args.self.now c.conjunction.new.self _ _ c.in-ok-left.ensures c.loop-self.self c.loop-self.invariant no.1)
+    (disjunction_read (names_of c.args.known) c.args.known.end c.args.depth c.requires c.args.self.now c.conjunction.new.self _ _ c.in-ok-left.ensures c.loop-self.self c.loop-self.invariant no.1)
 
 pub literal-returns-in-err-fact : goal.literal-returns-in-err-fact
 literal-returns-in-err-fact t c =
@@ -79,33 +79,33 @@ literal-returns-in-err-fact t c =
 pub literal-returns-in-err-inner : goal.literal-returns-in-err-inner
 literal-returns-in-err-inner t c =
     let p = err_from_is_err_and c.from-residual-in-err-inner.result c.from-residual-in-err-inner.ensures.1 in
-    rw (p.1, p.2) (negation-over (names_of c.args.known) c.args.known.end c.args.depth c.args.self.now c.in-err-inner.field-0.0
+    rw (p.1, p.2) (negation_over (names_of c.args.known) c.args.known.end c.args.depth c.args.self.now c.in-err-inner.field-0.0
     (subst (λ w. OverDeep c.args.self.now (said w) c.args.depth c.in-err-inner.field-0.0) c.in-Not.is c.in-err-inner.ensures))
 
 pub literal-returns-in-err-part : goal.literal-returns-in-err-part
 literal-returns-in-err-part t c =
     let p = err_from_is_err_and c.from-residual-in-err-part.result c.from-residual-in-err-part.ensures.1 in
-    rw (p.1, p.2) (negation-refused (names_of c.args.known) c.args.known.end c.args.depth c.args.self.now c.open.new.self _ c.in-ok-inner.ensures.0 c.in-ok-inner.ensures.1
+    rw (p.1, p.2) (negation_refused (names_of c.args.known) c.args.known.end c.args.depth c.args.self.now c.open.new.self _ c.in-ok-inner.ensures.0 c.in-ok-inner.ensures.1
     (subst (λ w. Taken c.args.self.now c.open.new.self (said w)) c.in-Not.is c.in-ok-inner.ensures.2)
     c.in-err-part.field-0.0 c.in-err-part.ensures)
 
 pub literal-returns-in-err-inner-2 : goal.literal-returns-in-err-inner-2
 literal-returns-in-err-inner-2 t c =
     let p = err_from_is_err_and c.from-residual-in-err-inner-2.result c.from-residual-in-err-inner-2.ensures.1 in
-    rw (p.1, p.2) (bracket-over (names_of c.args.known) c.args.known.end c.args.depth c.args.self.now c.in-err-inner-2.field-0.0
+    rw (p.1, p.2) (bracket_over (names_of c.args.known) c.args.known.end c.args.depth c.args.self.now c.in-err-inner-2.field-0.0
     (subst (λ w. OverDeep c.args.self.now (said w) c.args.depth c.in-err-inner-2.field-0.0) c.in-Open.is c.in-err-inner-2.ensures))
 
 pub literal-returns-in-err-part-2 : goal.literal-returns-in-err-part-2
 literal-returns-in-err-part-2 t c =
     let p = err_from_is_err_and c.from-residual-in-err-part-2.result c.from-residual-in-err-part-2.ensures.1 in
-    rw (p.1, p.2) (bracket-refused (names_of c.args.known) c.args.known.end c.args.depth c.args.self.now c.open-in-Open.new.self _ c.in-ok-inner-2.ensures.0 c.in-ok-inner-2.ensures.1
+    rw (p.1, p.2) (bracket_refused (names_of c.args.known) c.args.known.end c.args.depth c.args.self.now c.open-in-Open.new.self _ c.in-ok-inner-2.ensures.0 c.in-ok-inner-2.ensures.1
     (subst (λ w. Taken c.args.self.now c.open-in-Open.new.self (said w)) c.in-Open.is c.in-ok-inner-2.ensures.2)
     c.in-err-part-2.field-0.0 c.in-err-part-2.ensures)
 
 pub literal-returns-in-err-close : goal.literal-returns-in-err-close
 literal-returns-in-err-close t c =
     let p = err_from_is_err_and c.from-residual-in-err-close.result c.from-residual-in-err-close.ensures.1 in
-    rw (p.1, p.2) (bracket-unclosed (names_of c.args.known) c.args.known.end c.args.depth c.args.self.now c.open-in-Open.new.self _ c.in-ok-inner-2.ensures.0 c.in-ok-inner-2.ensures.1
+    rw (p.1, p.2) (bracket_unclosed (names_of c.args.known) c.args.known.end c.args.depth c.args.self.now c.open-in-Open.new.self _ c.in-ok-inner-2.ensures.0 c.in-ok-inner-2.ensures.1
     (subst (λ w. Taken c.args.self.now c.open-in-Open.new.self (said w)) c.in-Open.is c.in-ok-inner-2.ensures.2)
     c.disjunction.new.self _ c.in-ok-part-2.ensures c.in-err-close.field-0.0 c.in-err-close.ensures)
 
@@ -132,12 +132,12 @@ literal-returns-in-False t c =
 
 pub literal-returns-in-ok-i : goal.literal-returns-in-ok-i
 literal-returns-in-ok-i t c =
-    negation-read (names_of c.args.known) c.args.known.end c.args.depth c.args.self.now c.open.new.self _ c.in-ok-inner.ensures.0 c.in-ok-inner.ensures.1
+    negation_read (names_of c.args.known) c.args.known.end c.args.depth c.args.self.now c.open.new.self _ c.in-ok-inner.ensures.0 c.in-ok-inner.ensures.1
     (subst (λ w. Taken c.args.self.now c.open.new.self (said w)) c.in-Not.is c.in-ok-inner.ensures.2)
     c.literal.new.self c.clause.new.self _ _ c.in-ok-part.ensures c.in-ok-i.ensures
 
 pub literal-returns-in-ok-close : goal.literal-returns-in-ok-close
 literal-returns-in-ok-close t c =
-    bracket-read (names_of c.args.known) c.args.known.end c.args.depth c.args.self.now c.open-in-Open.new.self _ c.in-ok-inner-2.ensures.0 c.in-ok-inner-2.ensures.1
+    bracket_read (names_of c.args.known) c.args.known.end c.args.depth c.args.self.now c.open-in-Open.new.self _ c.in-ok-inner-2.ensures.0 c.in-ok-inner-2.ensures.1
     (subst (λ w. Taken c.args.self.now c.open-in-Open.new.self (said w)) c.in-Open.is c.in-ok-inner-2.ensures.2)
     c.disjunction.new.self _ c.in-ok-part-2.ensures c.close.new.self c.in-ok-close.ensures

@@ -1,4 +1,4 @@
-use Rattle.text.proofs.Growing.{grows_trans, prog_there, branch-built}
+use Rattle.text.proofs.Growing.{grows_trans, prog_there, branch_built}
 use Rattle.text.proofs.reader.Reader.branch.Goals as goal
 
 pub guarded-requires-2 : goal.guarded-requires-2
@@ -8,5 +8,5 @@ guarded-requires-2 c =
 
 pub returns : goal.returns
 returns c =
-    branch-built c.args.self.now c.guarded.new.self c.clause.new.self c.guarded-2.new.self c.node.new.self c.args.c c.args.p c.args.q
+    branch_built c.args.self.now c.guarded.new.self c.clause.new.self c.guarded-2.new.self c.node.new.self c.args.c c.args.p c.args.q
     _ _ _ _ c.in-ok-first.ensures c.in-ok-n.ensures c.in-ok-second.ensures c.in-ok-i.ensures c.requires.0 c.requires.2

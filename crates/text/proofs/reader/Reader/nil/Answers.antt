@@ -2,15 +2,15 @@ use Rattle.std.proofs.Common.{◌≡◌, sym, refl, ap, ◌∙◌, subst}
 use Rattle.std.proofs.lemmas.Result.{err_from_is_err_and}
 use Rattle.text.specs.Said.{said}
 use Rattle.text.specs.Rest.{names_of}
-use Rattle.text.proofs.Programs.{nil-over, nil-read}
+use Rattle.text.proofs.Programs.{nil_over, nil_read}
 use Rattle.text.proofs.reader.Reader.nil.Goals as goal
 
 pub returns-in-err-take : goal.returns-in-err-take
 returns-in-err-take c =
     let p = err_from_is_err_and c.from-residual.result c.from-residual.ensures.1 in
-    rw (p.1, p.2) (nil-over (names_of c.args.known) c.args.known.end c.args.depth c.requires.2 c.args.self.now (said c.args.token.word) c.requires.1 c.in-err-take.field-0.0 c.in-err-take.ensures)
+    rw (p.1, p.2) (nil_over (names_of c.args.known) c.args.known.end c.args.depth c.requires.2 c.args.self.now (said c.args.token.word) c.requires.1 c.in-err-take.field-0.0 c.in-err-take.ensures)
 
 pub returns : goal.returns
 returns c =
-    nil-read (names_of c.args.known) c.args.known.end c.args.depth c.requires.2 c.args.self.now (said c.args.token.word) c.requires.1 c.take.new.self c.clause.new.self c.node.new.self _ _ c.in-ok-take.ensures
+    nil_read (names_of c.args.known) c.args.known.end c.args.depth c.requires.2 c.args.self.now (said c.args.token.word) c.requires.1 c.take.new.self c.clause.new.self c.node.new.self _ _ c.in-ok-take.ensures
     c.in-ok-c.ensures c.in-ok-i.ensures

@@ -1,5 +1,5 @@
 use Rattle.std.proofs.Common.{suc, arith, rules}
-use Rattle.text.proofs.Stepping.{too_many, stopped, passed-fewer, passed_on}
+use Rattle.text.proofs.Stepping.{too_many, stopped, passed_fewer, passed_on}
 use Rattle.text.proofs.reader.Reader.take.Goals as goal
 
 pub returns-then-self-ge-MOST-WORDS : goal.returns-then-self-ge-MOST-WORDS
@@ -8,7 +8,7 @@ returns-then-self-ge-MOST-WORDS c N len S U e =
 
 pub returns : goal.returns
 returns c = record {
-  fewer = passed-fewer _ _ _ c.pass.ensures;
+  fewer = passed_fewer _ _ _ c.pass.ensures;
   tree = c.pass.ensures.tree;
   on = passed_on _ _ _ c.pass.ensures (search rules);
 }

@@ -1,18 +1,18 @@
 use Rattle.std.proofs.Common.{suc, refl, arith, rules}
-use Rattle.text.proofs.Stepping.{too_many, too_many_acts, stopped-act, passed-fewer, passed-act-on}
+use Rattle.text.proofs.Stepping.{too_many, too_many_acts, stopped_act, passed_fewer, passed_act_on}
 use Rattle.text.proofs.reader.Reader.take_act.Goals as goal
 
 pub returns-then-self-ge-MOST-WORDS : goal.returns-then-self-ge-MOST-WORDS
 returns-then-self-ge-MOST-WORDS c N len S U e =
-    stopped-act c.args.self.now c.args.token c.requires N len S U e (too_many (suc c.args.self.now.taken) (suc c.args.self.now.acts) U (omega arith))
+    stopped_act c.args.self.now c.args.token c.requires N len S U e (too_many (suc c.args.self.now.taken) (suc c.args.self.now.acts) U (omega arith))
 
 pub returns-then-self-ge-MOST-ACT-WORDS : goal.returns-then-self-ge-MOST-ACT-WORDS
 returns-then-self-ge-MOST-ACT-WORDS c N len S U e =
-    stopped-act c.args.self.now c.args.token c.requires N len S U e (too_many_acts (suc c.args.self.now.taken) (suc c.args.self.now.acts) U (omega arith))
+    stopped_act c.args.self.now c.args.token c.requires N len S U e (too_many_acts (suc c.args.self.now.taken) (suc c.args.self.now.acts) U (omega arith))
 
 pub returns : goal.returns
 returns c = record {
-  fewer = passed-fewer _ _ _ c.pass.ensures;
+  fewer = passed_fewer _ _ _ c.pass.ensures;
   tree = c.pass.ensures.tree;
-  on = passed-act-on _ _ _ c.pass.ensures _ refl refl refl (search rules) (search rules);
+  on = passed_act_on _ _ _ c.pass.ensures _ refl refl refl (search rules) (search rules);
 }

@@ -1,21 +1,21 @@
 use Rattle.std.proofs.Common.{◌≡◌, refl, ◌∙◌}
 use Rattle.std.proofs.lemmas.Result.{err_from_is_err_and}
 use Rattle.text.specs.Rest.{both_names}
-use Rattle.text.proofs.Texts.{first_rest, reading_begins, whole-refused, whole-read, whole-unplaced}
+use Rattle.text.proofs.Texts.{first_rest, reading_begins, whole_refused, whole_read, whole_unplaced}
 use Rattle.text.proofs.reader.whole.read_whole.Goals as goal
 
 pub returns-in-err-root : goal.returns-in-err-root
 returns-in-err-root c =
     let p = err_from_is_err_and c.from-residual.result c.from-residual.ensures.1 in
     let N = both_names c.args.facts.now c.args.acts.now in
-    rw (p.1, p.2) (whole-refused N c.args.text.now _
+    rw (p.1, p.2) (whole_refused N c.args.text.now _
     (reading_begins N c.args.text.now _ (first_rest c.next-ahead.result c.new-words.result c.next-ahead.new.self c.next-ahead.ensures ∙ c.new-words.ensures) refl refl)
     c.in-err-root.field-0.0 c.in-err-root.ensures)
 
 pub returns-in-Some : goal.returns-in-Some
 returns-in-Some c =
     let N = both_names c.args.facts.now c.args.acts.now in
-    whole-unplaced N c.args.text.now _
+    whole_unplaced N c.args.text.now _
     (reading_begins N c.args.text.now _ (first_rest c.next-ahead.result c.new-words.result c.next-ahead.new.self c.next-ahead.ensures ∙ c.new-words.ensures) refl refl)
     c.choice.new.self _ c.in-ok-root.ensures c.in-Some.-token c.in-Some.is c.misplaced.result c.misplaced.ensures
 
@@ -23,7 +23,7 @@ pub returns : goal.returns
 returns c =
     let N = both_names c.args.facts.now c.args.acts.now in (
       c.in-ok-root.ensures.there,
-      whole-read N c.args.text.now _
+      whole_read N c.args.text.now _
           (reading_begins N c.args.text.now _ (first_rest c.next-ahead.result c.new-words.result c.next-ahead.new.self c.next-ahead.ensures ∙ c.new-words.ensures) refl refl)
           c.choice.new.self _ c.in-ok-root.ensures c.in-default.is,
     )

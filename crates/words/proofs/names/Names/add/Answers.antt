@@ -5,5 +5,5 @@ use Rattle.words.proofs.names.Names.add.Goals as goal
 pub returns : goal.returns
 returns c =
     let vs = vec_items c.args.self.now.list in
-    ap (map vec_items) c.in-ok-push.ensures.items
-    ∙ (map_push vec_items vs c.in-ok-copy.copy ∙ ap (λ n. map vec_items vs ++ n ∷ []) c.in-ok-copy.ensures.items)
+    ap (map vec_items) c.in_ok-push.ensures.items
+    ∙ (map_push vec_items vs c.in_ok-copy.copy ∙ ap (λ n. map vec_items vs ++ n ∷ []) c.in_ok-copy.ensures.items)

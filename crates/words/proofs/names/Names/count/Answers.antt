@@ -3,4 +3,4 @@ use Rattle.std.proofs.lemmas.List.{length-map}
 use Rattle.words.proofs.names.Names.count.Goals as goal
 
 pub returns : goal.returns
-returns c = ap length c.as-slice.ensures.value ∙ sym (length-map (vec_items c.args.self.now.list) vec_items)
+returns c = ap length c.as_slice.ensures.value ∙ sym (length-map (vec_items c.args.self.now.list) vec_items)
