@@ -5,17 +5,12 @@ use Rattle.lowest.proofs.Tables.{getD_replicate_same}
 use Rattle.lowest.proofs.facts.FactLock.new.Goals as goal
 
 pub invariant_of-result : goal.invariant_of-result
-invariant_of-result c = (
-  search rules,
-  (
-    search rules,
-    (
-      (λ i.
-          subst (λ (x : ℕ). x < 2 ^ c.args.facts)
-          (sym (ap (λ (xs : List (Option Change)). set_bits (get_or xs i None)) c.in_ok-changes.ensures.0
-          ∙ ap set_bits (getD_replicate_same _ i None)))
-          (pow_pos c.args.facts)),
-      tt,
-    ),
-  ),
-)
+invariant_of-result c = record {
+  ranges = search rules;
+  sizes = search rules;
+  masks = (λ i.
+      subst (λ (x : ℕ). x < 2 ^ c.args.facts)
+      (sym (ap (λ (xs : List (Option Change)). set_bits (get_or xs i None)) c.in_ok-changes.ensures.0
+      ∙ ap set_bits (getD_replicate_same _ i None)))
+      (pow_pos c.args.facts));
+}

@@ -13,17 +13,10 @@ index_mut-requires c =
 
 pub invariant_of-self : goal.invariant_of-self
 invariant_of-self c =
-    let l = c.args.self.now in (
-      search rules,
-      (
-        search rules,
-        (
-          search rules,
-          (
-            each_set (λ (x : Option ℕ). unwrap_or x 0 < l.states) (vec_items l.moves) c.place-place.result (Some c.args.after) None
-                (search rules) l.ends,
-            tt,
-          ),
-        ),
-      ),
-    )
+    let l = c.args.self.now in record {
+      ranges = search rules;
+      counts = search rules;
+      sizes = search rules;
+      ends = each_set (λ (x : Option ℕ). unwrap_or x 0 < l.states) (vec_items l.moves) c.place-place.result (Some c.args.after) None
+          (search rules) l.ends;
+    }
