@@ -3,7 +3,6 @@ ghost use Rattle.lowest.specs.Lowest.{lowest_lock};
 ghost use Rattle.locks.specs.Meaning.{Live};
 ghost use Rattle.locks.specs.Stuck.{FirstStuck};
 ghost use Rattle.lowest.specs.LowestLaws.{lowest_lawful};
-ghost use Rattle.std.proofs.Common.{rules, arith};
 
 use locks::lock::{LiveLock, Lock, NO_REACTION};
 use locks::stuck::{Stuck, first_stuck, lowest_possible};
@@ -75,7 +74,7 @@ impl Lock for LiveLowest {
 }
 
 impl LiveLock for LiveLowest {
-    ghost live = { first_of (Prim.search rules, Prim.grind (arith, Self.row.coded.inj)) };
+    ghost live = { λ l. l.live };
 
     fn named(&self, state: u32, act: u8) -> u8 {
         lowest_possible(&self.lowest, state, act).unwrap_or(NO_REACTION)

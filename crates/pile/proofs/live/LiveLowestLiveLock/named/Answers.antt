@@ -8,6 +8,6 @@ use Rattle.pile.proofs.live.LiveLowestLiveLock.named.Goals as goal
 pub returns : goal.returns
 returns c =
     let l = c.args.self.now in
-    subst (Named (lowest_lock l.lowest) c.args.state c.args.act) (sym c.unwrap-or.ensures)
+    subst (Named (lowest_lock l.lowest) c.args.state c.args.act) (sym c.unwrap_or.ensures)
     (named_lowest (lowest_lock l.lowest) (lowest_lawful l.lowest) l.live c.args.state c.args.act
-    c.lowest-possible.result c.lowest-possible.ensures)
+    c.lowest_possible.result c.lowest_possible.ensures)

@@ -7,9 +7,9 @@ use Rattle.text.proofs.lexer.cutting.run_end.Goals as goal
 pub loop-i-init : goal.loop-i-init
 loop-i-init c = gap_part c.args.text.now c.args.start c.requires.0 (sym c.requires.1)
 
-pub returns-in-default : goal.returns-in-default
-returns-in-default c =
-    let other : part ≡ byte_kind (get_or c.args.text.now c.loop-i.i 0) → ⊥ = λ e. c.in-default.not-Part (kind_part c.kind_of.result (e ∙ sym c.kind_of.ensures)) in
+pub returns-in_default : goal.returns-in_default
+returns-in_default c =
+    let other : part ≡ byte_kind (get_or c.args.text.now c.loop-i.i 0) → ⊥ = λ e. c.in_default.not-Part (kind_part c.kind_of.result (e ∙ sym c.kind_of.ensures)) in
     record {
       within = search rules;
       run = c.loop-i.invariant ∙ run_ends c.args.text.now c.loop-i.i (search rules) c.args.start _ other;

@@ -10,5 +10,5 @@ pub loop-i-preserved : goal.loop-i-preserved
 loop-i-preserved c = (
   search rules,
   search rules,
-  c.loop-i.invariant.2 ∙ (gap_hash c.args.text.now c.loop-i.i (search rules) c.in-Hash.ensures ∙ c.comment-end-i.ensures.skips),
+  c.loop-i.invariant.2 ∙ (gap_hash c.args.text.now c.loop-i.i (search rules) c.in-Hash.ensures ∙ c.comment_end-i.ensures.skips),
 )

@@ -4,19 +4,19 @@ use Rattle.text.specs.Rest.{both_names}
 use Rattle.text.proofs.Texts.{read_bounds}
 use Rattle.text.proofs.parsed.reading.read.Goals as goal
 
-pub invariant-of-result : goal.invariant-of-result
-invariant-of-result c =
-    let w = c.in-ok-tree.ensures in
-    let b = read_bounds (both_names c.args.facts.now c.args.acts.now) c.args.text.now (prog_at c.in-ok-tree.tree c.in-ok-tree.root) c.count.result c.count-2.result
+pub invariant_of-result : goal.invariant_of-result
+invariant_of-result c =
+    let w = c.in_ok-tree.ensures in
+    let b = read_bounds (both_names c.args.facts.now c.args.acts.now) c.args.text.now (prog_at c.in_ok-tree.tree c.in_ok-tree.root) c.count.result c.count-2.result
     c.count.ensures c.count-2.ensures w.1 in
     (w.0, (b.0, (b.1, (b.2, tt))))
 
 pub returns : goal.returns
 returns c =
-    let w = c.in-ok-tree.ensures in
+    let w = c.in_ok-tree.ensures in
     record {
       reads = w.1;
-      grammar = (reading_is_grammar (both_names c.args.facts.now c.args.acts.now) c.args.text.now (prog_at c.in-ok-tree.tree c.in-ok-tree.root)).0 w.1;
+      grammar = (reading_is_grammar (both_names c.args.facts.now c.args.acts.now) c.args.text.now (prog_at c.in_ok-tree.tree c.in_ok-tree.root)).0 w.1;
       all_facts = c.count.ensures;
       all_acts = c.count-2.ensures;
     }

@@ -11,185 +11,185 @@ use Rattle.text.proofs.Stepping.{takes_yes, takes_no}
 use Rattle.text.proofs.Programs.{item_read, item_over, star_joined, sequence_read, sequence_over, sequence_refused, seq_joined, choice_read, choice_over, choice_refused, alt_joined, inside_refused, inside_unclosed, inside_read, test_refused, test_read, round_over, round_refused, round_read, if_refused, then_refused, else_refused, if_cond_there, if_then_there, if_read, while_refused, do_refused, while_cond_there, while_read}
 use Rattle.text.proofs.reader.Reader.+atom_choice_inside_item_sequence.Goals as goal
 
-pub item-returns-in-err-takes : goal.item-returns-in-err-takes
-item-returns-in-err-takes t c =
-    let p = err_from_is_err_and c.from-residual-in-err-takes.result c.from-residual-in-err-takes.ensures.1 in
-    rw (p.1, p.2) (item_over (names_of c.args.known) c.args.known.end c.args.depth c.requires c.args.self.now c.atom.new.self _ _ c.in-ok-part.ensures c.loop-self.self c.loop-self.invariant
-    c.in-err-takes.field-0.0 c.in-err-takes.ensures)
+pub item-returns-in_err-takes : goal.item-returns-in_err-takes
+item-returns-in_err-takes t c =
+    let p = err_from_is_err_and c.from_residual-in_err-takes.result c.from_residual-in_err-takes.ensures.1 in
+    rw (p.1, p.2) (item_over (names_of c.args.known) c.args.known.end c.args.depth c.requires c.args.self.now c.atom.new.self _ _ c.in_ok-part.ensures c.loop-self.self c.loop-self.invariant
+    c.in_err-takes.field-0.0 c.in_err-takes.ensures)
 
 pub item-loop-self-preserved : goal.item-loop-self-preserved
 item-loop-self-preserved t c =
-    star_joined (names_of c.args.known) c.args.known.end c.args.depth c.requires c.atom.new.self c.in-ok-part.part c.loop-self.self c.loop-self.part c.loop-self.invariant
-    c.takes.new.self c.node.new.self _ (takes_yes _ c.loop-self.self c.takes.new.self mark.Star c.if-branch.true c.in-ok-takes.ensures) c.in-ok-part-2.ensures
+    star_joined (names_of c.args.known) c.args.known.end c.args.depth c.requires c.atom.new.self c.in_ok-part.part c.loop-self.self c.loop-self.part c.loop-self.invariant
+    c.takes.new.self c.node.new.self _ (takes_yes _ c.loop-self.self c.takes.new.self mark.Star c.if-branch.true c.in_ok-takes.ensures) c.in_ok-part-2.ensures
 
 pub item-returns : goal.item-returns
 item-returns t c =
-    let no = takes_no _ c.loop-self.self c.takes.new.self mark.Star c.if-branch.false c.in-ok-takes.ensures in
+    let no = takes_no _ c.loop-self.self c.takes.new.self mark.Star c.if-branch.false c.in_ok-takes.ensures in
     subst (λ u. ProgRead item (names_of c.args.known) c.args.known.end c.args.depth c.args.self.now u c.loop-self.part) (sym no.0)
-    (item_read (names_of c.args.known) c.args.known.end c.args.depth c.requires c.args.self.now c.atom.new.self _ _ c.in-ok-part.ensures c.loop-self.self c.loop-self.invariant no.1)
+    (item_read (names_of c.args.known) c.args.known.end c.args.depth c.requires c.args.self.now c.atom.new.self _ _ c.in_ok-part.ensures c.loop-self.self c.loop-self.invariant no.1)
 
-pub sequence-returns-in-err-takes : goal.sequence-returns-in-err-takes
-sequence-returns-in-err-takes t c =
-    let p = err_from_is_err_and c.from-residual-in-err-takes.result c.from-residual-in-err-takes.ensures.1 in
-    rw (p.1, p.2) (sequence_over (names_of c.args.known) c.args.known.end c.args.depth c.requires c.args.self.now c.item.new.self _ _ c.in-ok-left.ensures c.loop-self.self c.loop-self.invariant
-    c.in-err-takes.field-0.0 c.in-err-takes.ensures)
+pub sequence-returns-in_err-takes : goal.sequence-returns-in_err-takes
+sequence-returns-in_err-takes t c =
+    let p = err_from_is_err_and c.from_residual-in_err-takes.result c.from_residual-in_err-takes.ensures.1 in
+    rw (p.1, p.2) (sequence_over (names_of c.args.known) c.args.known.end c.args.depth c.requires c.args.self.now c.item.new.self _ _ c.in_ok-left.ensures c.loop-self.self c.loop-self.invariant
+    c.in_err-takes.field-0.0 c.in_err-takes.ensures)
 
-pub sequence-returns-in-err-right : goal.sequence-returns-in-err-right
-sequence-returns-in-err-right t c =
-    let p = err_from_is_err_and c.from-residual-in-err-right.result c.from-residual-in-err-right.ensures.1 in
-    rw (p.1, p.2) (sequence_refused (names_of c.args.known) c.args.known.end c.args.depth c.requires c.args.self.now c.item.new.self _ _ c.in-ok-left.ensures c.loop-self.self c.loop-self.invariant
-    c.takes.new.self (takes_yes _ c.loop-self.self c.takes.new.self mark.Semicolon c.if-branch.true c.in-ok-takes.ensures)
-    c.in-err-right.field-0.0 c.in-err-right.ensures)
+pub sequence-returns-in_err-right : goal.sequence-returns-in_err-right
+sequence-returns-in_err-right t c =
+    let p = err_from_is_err_and c.from_residual-in_err-right.result c.from_residual-in_err-right.ensures.1 in
+    rw (p.1, p.2) (sequence_refused (names_of c.args.known) c.args.known.end c.args.depth c.requires c.args.self.now c.item.new.self _ _ c.in_ok-left.ensures c.loop-self.self c.loop-self.invariant
+    c.takes.new.self (takes_yes _ c.loop-self.self c.takes.new.self mark.Semicolon c.if-branch.true c.in_ok-takes.ensures)
+    c.in_err-right.field-0.0 c.in_err-right.ensures)
 
 pub sequence-loop-self-preserved : goal.sequence-loop-self-preserved
 sequence-loop-self-preserved t c =
-    seq_joined (names_of c.args.known) c.args.known.end c.args.depth c.requires c.item.new.self c.in-ok-left.left c.loop-self.self c.loop-self.left c.loop-self.invariant
-    c.takes.new.self _ c.node.new.self _ _ (takes_yes _ c.loop-self.self c.takes.new.self mark.Semicolon c.if-branch.true c.in-ok-takes.ensures)
-    c.in-ok-right.ensures c.in-ok-left-2.ensures
+    seq_joined (names_of c.args.known) c.args.known.end c.args.depth c.requires c.item.new.self c.in_ok-left.left c.loop-self.self c.loop-self.left c.loop-self.invariant
+    c.takes.new.self _ c.node.new.self _ _ (takes_yes _ c.loop-self.self c.takes.new.self mark.Semicolon c.if-branch.true c.in_ok-takes.ensures)
+    c.in_ok-right.ensures c.in_ok-left-2.ensures
 
 pub sequence-returns : goal.sequence-returns
 sequence-returns t c =
-    let no = takes_no _ c.loop-self.self c.takes.new.self mark.Semicolon c.if-branch.false c.in-ok-takes.ensures in
+    let no = takes_no _ c.loop-self.self c.takes.new.self mark.Semicolon c.if-branch.false c.in_ok-takes.ensures in
     subst (λ u. ProgRead sequence (names_of c.args.known) c.args.known.end c.args.depth c.args.self.now u c.loop-self.left) (sym no.0)
-    (sequence_read (names_of c.args.known) c.args.known.end c.args.depth c.requires c.args.self.now c.item.new.self _ _ c.in-ok-left.ensures c.loop-self.self c.loop-self.invariant no.1)
+    (sequence_read (names_of c.args.known) c.args.known.end c.args.depth c.requires c.args.self.now c.item.new.self _ _ c.in_ok-left.ensures c.loop-self.self c.loop-self.invariant no.1)
 
-pub choice-returns-in-err-left : goal.choice-returns-in-err-left
-choice-returns-in-err-left t c =
-    let p = err_from_is_err_and c.from-residual.result c.from-residual.ensures.1 in
-    rw (p.1, p.2) (λ K A e. c.in-err-left.ensures K (none, none) e)
+pub choice-returns-in_err-left : goal.choice-returns-in_err-left
+choice-returns-in_err-left t c =
+    let p = err_from_is_err_and c.from_residual.result c.from_residual.ensures.1 in
+    rw (p.1, p.2) (λ K A e. c.in_err-left.ensures K (none, none) e)
 
-pub choice-returns-in-err-takes : goal.choice-returns-in-err-takes
-choice-returns-in-err-takes t c =
-    let p = err_from_is_err_and c.from-residual-in-err-takes.result c.from-residual-in-err-takes.ensures.1 in
-    rw (p.1, p.2) (choice_over (names_of c.args.known) c.args.known.end c.args.depth c.requires c.args.self.now c.sequence.new.self _ _ c.in-ok-left.ensures c.loop-self.self c.loop-self.invariant
-    c.in-err-takes.field-0.0 c.in-err-takes.ensures)
+pub choice-returns-in_err-takes : goal.choice-returns-in_err-takes
+choice-returns-in_err-takes t c =
+    let p = err_from_is_err_and c.from_residual-in_err-takes.result c.from_residual-in_err-takes.ensures.1 in
+    rw (p.1, p.2) (choice_over (names_of c.args.known) c.args.known.end c.args.depth c.requires c.args.self.now c.sequence.new.self _ _ c.in_ok-left.ensures c.loop-self.self c.loop-self.invariant
+    c.in_err-takes.field-0.0 c.in_err-takes.ensures)
 
-pub choice-returns-in-err-right : goal.choice-returns-in-err-right
-choice-returns-in-err-right t c =
-    let p = err_from_is_err_and c.from-residual-in-err-right.result c.from-residual-in-err-right.ensures.1 in
-    rw (p.1, p.2) (choice_refused (names_of c.args.known) c.args.known.end c.args.depth c.requires c.args.self.now c.sequence.new.self _ _ c.in-ok-left.ensures c.loop-self.self c.loop-self.invariant
-    c.takes.new.self (takes_yes _ c.loop-self.self c.takes.new.self mark.Bar c.if-branch.true c.in-ok-takes.ensures)
-    c.in-err-right.field-0.0 c.in-err-right.ensures)
+pub choice-returns-in_err-right : goal.choice-returns-in_err-right
+choice-returns-in_err-right t c =
+    let p = err_from_is_err_and c.from_residual-in_err-right.result c.from_residual-in_err-right.ensures.1 in
+    rw (p.1, p.2) (choice_refused (names_of c.args.known) c.args.known.end c.args.depth c.requires c.args.self.now c.sequence.new.self _ _ c.in_ok-left.ensures c.loop-self.self c.loop-self.invariant
+    c.takes.new.self (takes_yes _ c.loop-self.self c.takes.new.self mark.Bar c.if-branch.true c.in_ok-takes.ensures)
+    c.in_err-right.field-0.0 c.in_err-right.ensures)
 
 pub choice-loop-self-preserved : goal.choice-loop-self-preserved
 choice-loop-self-preserved t c =
-    alt_joined (names_of c.args.known) c.args.known.end c.args.depth c.requires c.sequence.new.self c.in-ok-left.left c.loop-self.self c.loop-self.left c.loop-self.invariant
-    c.takes.new.self _ c.node.new.self _ _ (takes_yes _ c.loop-self.self c.takes.new.self mark.Bar c.if-branch.true c.in-ok-takes.ensures)
-    c.in-ok-right.ensures c.in-ok-left-2.ensures
+    alt_joined (names_of c.args.known) c.args.known.end c.args.depth c.requires c.sequence.new.self c.in_ok-left.left c.loop-self.self c.loop-self.left c.loop-self.invariant
+    c.takes.new.self _ c.node.new.self _ _ (takes_yes _ c.loop-self.self c.takes.new.self mark.Bar c.if-branch.true c.in_ok-takes.ensures)
+    c.in_ok-right.ensures c.in_ok-left-2.ensures
 
 pub choice-returns : goal.choice-returns
 choice-returns t c =
-    let no = takes_no _ c.loop-self.self c.takes.new.self mark.Bar c.if-branch.false c.in-ok-takes.ensures in
+    let no = takes_no _ c.loop-self.self c.takes.new.self mark.Bar c.if-branch.false c.in_ok-takes.ensures in
     subst (λ u. ProgRead choice (names_of c.args.known) c.args.known.end c.args.depth c.args.self.now u c.loop-self.left) (sym no.0)
-    (choice_read (names_of c.args.known) c.args.known.end c.args.depth c.requires c.args.self.now c.sequence.new.self _ _ c.in-ok-left.ensures c.loop-self.self c.loop-self.invariant no.1)
+    (choice_read (names_of c.args.known) c.args.known.end c.args.depth c.requires c.args.self.now c.sequence.new.self _ _ c.in_ok-left.ensures c.loop-self.self c.loop-self.invariant no.1)
 
-pub inside-returns-in-err-part : goal.inside-returns-in-err-part
-inside-returns-in-err-part t c =
-    let p = err_from_is_err_and c.from-residual.result c.from-residual.ensures.1 in
-    rw (p.1, p.2) (inside_refused (names_of c.args.known) c.args.known.end c.args.depth c.args.self.now c.args.mark c.in-err-part.field-0.0 c.in-err-part.ensures)
+pub inside-returns-in_err-part : goal.inside-returns-in_err-part
+inside-returns-in_err-part t c =
+    let p = err_from_is_err_and c.from_residual.result c.from_residual.ensures.1 in
+    rw (p.1, p.2) (inside_refused (names_of c.args.known) c.args.known.end c.args.depth c.args.self.now c.args.mark c.in_err-part.field-0.0 c.in_err-part.ensures)
 
-pub inside-returns-in-err-close : goal.inside-returns-in-err-close
-inside-returns-in-err-close t c =
-    let p = err_from_is_err_and c.from-residual-in-err-close.result c.from-residual-in-err-close.ensures.1 in
-    rw (p.1, p.2) (inside_unclosed (names_of c.args.known) c.args.known.end c.args.depth c.args.self.now c.args.mark c.choice.new.self _ c.in-ok-part.ensures c.in-err-close.field-0.0 c.in-err-close.ensures)
+pub inside-returns-in_err-close : goal.inside-returns-in_err-close
+inside-returns-in_err-close t c =
+    let p = err_from_is_err_and c.from_residual-in_err-close.result c.from_residual-in_err-close.ensures.1 in
+    rw (p.1, p.2) (inside_unclosed (names_of c.args.known) c.args.known.end c.args.depth c.args.self.now c.args.mark c.choice.new.self _ c.in_ok-part.ensures c.in_err-close.field-0.0 c.in_err-close.ensures)
 
 pub inside-returns : goal.inside-returns
 inside-returns t c =
-    inside_read (names_of c.args.known) c.args.known.end c.args.depth c.args.self.now c.args.mark c.choice.new.self _ c.in-ok-part.ensures c.close.new.self c.in-ok-close.ensures
+    inside_read (names_of c.args.known) c.args.known.end c.args.depth c.args.self.now c.args.mark c.choice.new.self _ c.in_ok-part.ensures c.close.new.self c.in_ok-close.ensures
 
-pub atom-returns-in-err-c : goal.atom-returns-in-err-c
-atom-returns-in-err-c t c =
-    let p = err_from_is_err_and c.from-residual.result c.from-residual.ensures.1 in
-    rw (p.1, p.2) (test_refused (names_of c.args.known) c.args.known.end c.args.depth c.requires c.args.self.now c.in-err-c.field-0.0
-    (subst (λ w. GuardRefused (names_of c.args.known) c.args.known.end c.args.depth c.args.self.now (said w) mark.CloseSquare c.in-err-c.field-0.0) c.in-OpenSquare.is c.in-err-c.ensures))
+pub atom-returns-in_err-c : goal.atom-returns-in_err-c
+atom-returns-in_err-c t c =
+    let p = err_from_is_err_and c.from_residual.result c.from_residual.ensures.1 in
+    rw (p.1, p.2) (test_refused (names_of c.args.known) c.args.known.end c.args.depth c.requires c.args.self.now c.in_err-c.field-0.0
+    (subst (λ w. GuardRefused (names_of c.args.known) c.args.known.end c.args.depth c.args.self.now (said w) mark.CloseSquare c.in_err-c.field-0.0) c.in-OpenSquare.is c.in_err-c.ensures))
 
-pub atom-returns-in-err-inner : goal.atom-returns-in-err-inner
-atom-returns-in-err-inner t c =
-    let p = err_from_is_err_and c.from-residual-in-err-inner.result c.from-residual-in-err-inner.ensures.1 in
-    rw (p.1, p.2) (round_over (names_of c.args.known) c.args.known.end c.args.depth c.requires c.args.self.now c.in-err-inner.field-0.0
-    (subst (λ w. OverDeep c.args.self.now (said w) c.args.depth c.in-err-inner.field-0.0) c.in-Open.is c.in-err-inner.ensures))
+pub atom-returns-in_err-inner : goal.atom-returns-in_err-inner
+atom-returns-in_err-inner t c =
+    let p = err_from_is_err_and c.from_residual-in_err-inner.result c.from_residual-in_err-inner.ensures.1 in
+    rw (p.1, p.2) (round_over (names_of c.args.known) c.args.known.end c.args.depth c.requires c.args.self.now c.in_err-inner.field-0.0
+    (subst (λ w. OverDeep c.args.self.now (said w) c.args.depth c.in_err-inner.field-0.0) c.in-Open.is c.in_err-inner.ensures))
 
-pub atom-returns-in-err-i-2 : goal.atom-returns-in-err-i-2
-atom-returns-in-err-i-2 t c =
-    let p = err_from_is_err_and c.from-residual-in-err-i-2.result c.from-residual-in-err-i-2.ensures.1 in
-    rw (p.1, p.2) (round_refused (names_of c.args.known) c.args.known.end c.args.depth c.requires c.args.self.now c.open.new.self _ c.in-ok-inner.ensures.0 c.in-ok-inner.ensures.1
-    (subst (λ w. Taken c.args.self.now c.open.new.self (said w)) c.in-Open.is c.in-ok-inner.ensures.2)
-    c.in-err-i-2.field-0.0 c.in-err-i-2.ensures)
+pub atom-returns-in_err-i-2 : goal.atom-returns-in_err-i-2
+atom-returns-in_err-i-2 t c =
+    let p = err_from_is_err_and c.from_residual-in_err-i-2.result c.from_residual-in_err-i-2.ensures.1 in
+    rw (p.1, p.2) (round_refused (names_of c.args.known) c.args.known.end c.args.depth c.requires c.args.self.now c.open.new.self _ c.in_ok-inner.ensures.0 c.in_ok-inner.ensures.1
+    (subst (λ w. Taken c.args.self.now c.open.new.self (said w)) c.in-Open.is c.in_ok-inner.ensures.2)
+    c.in_err-i-2.field-0.0 c.in_err-i-2.ensures)
 
-pub atom-returns-in-err-c-2 : goal.atom-returns-in-err-c-2
-atom-returns-in-err-c-2 t c =
-    let p = err_from_is_err_and c.from-residual-in-err-c-2.result c.from-residual-in-err-c-2.ensures.1 in
-    rw (p.1, p.2) (if_refused (names_of c.args.known) c.args.known.end c.args.depth c.requires c.args.self.now c.in-err-c-2.field-0.0
-    (subst (λ w. GuardRefused (names_of c.args.known) c.args.known.end c.args.depth c.args.self.now (said w) mark.Then c.in-err-c-2.field-0.0) c.in-If.is c.in-err-c-2.ensures))
+pub atom-returns-in_err-c-2 : goal.atom-returns-in_err-c-2
+atom-returns-in_err-c-2 t c =
+    let p = err_from_is_err_and c.from_residual-in_err-c-2.result c.from_residual-in_err-c-2.ensures.1 in
+    rw (p.1, p.2) (if_refused (names_of c.args.known) c.args.known.end c.args.depth c.requires c.args.self.now c.in_err-c-2.field-0.0
+    (subst (λ w. GuardRefused (names_of c.args.known) c.args.known.end c.args.depth c.args.self.now (said w) mark.Then c.in_err-c-2.field-0.0) c.in-If.is c.in_err-c-2.ensures))
 
-pub atom-returns-in-err-p : goal.atom-returns-in-err-p
-atom-returns-in-err-p t c =
-    let p = err_from_is_err_and c.from-residual-in-err-p.result c.from-residual-in-err-p.ensures.1 in
+pub atom-returns-in_err-p : goal.atom-returns-in_err-p
+atom-returns-in_err-p t c =
+    let p = err_from_is_err_and c.from_residual-in_err-p.result c.from_residual-in_err-p.ensures.1 in
     rw (p.1, p.2) (then_refused (names_of c.args.known) c.args.known.end c.args.depth c.requires c.args.self.now c.condition-in-If.new.self _
-    (subst (λ w. GuardRead (names_of c.args.known) c.args.known.end c.args.depth c.args.self.now c.condition-in-If.new.self (said w) mark.Then c.in-ok-c-2.c) c.in-If.is c.in-ok-c-2.ensures)
-    c.in-err-p.field-0.0 c.in-err-p.ensures)
+    (subst (λ w. GuardRead (names_of c.args.known) c.args.known.end c.args.depth c.args.self.now c.condition-in-If.new.self (said w) mark.Then c.in_ok-c-2.c) c.in-If.is c.in_ok-c-2.ensures)
+    c.in_err-p.field-0.0 c.in_err-p.ensures)
 
-pub atom-returns-in-err-q : goal.atom-returns-in-err-q
-atom-returns-in-err-q t c =
-    let p = err_from_is_err_and c.from-residual-in-err-q.result c.from-residual-in-err-q.ensures.1 in
+pub atom-returns-in_err-q : goal.atom-returns-in_err-q
+atom-returns-in_err-q t c =
+    let p = err_from_is_err_and c.from_residual-in_err-q.result c.from_residual-in_err-q.ensures.1 in
     rw (p.1, p.2) (else_refused (names_of c.args.known) c.args.known.end c.args.depth c.requires c.args.self.now c.condition-in-If.new.self _
-    (subst (λ w. GuardRead (names_of c.args.known) c.args.known.end c.args.depth c.args.self.now c.condition-in-If.new.self (said w) mark.Then c.in-ok-c-2.c) c.in-If.is c.in-ok-c-2.ensures)
-    c.inside-in-If.new.self _ c.in-ok-p.ensures c.in-err-q.field-0.0 c.in-err-q.ensures)
+    (subst (λ w. GuardRead (names_of c.args.known) c.args.known.end c.args.depth c.args.self.now c.condition-in-If.new.self (said w) mark.Then c.in_ok-c-2.c) c.in-If.is c.in_ok-c-2.ensures)
+    c.inside-in-If.new.self _ c.in_ok-p.ensures c.in_err-q.field-0.0 c.in_err-q.ensures)
 
 pub atom-branch-self-requires : goal.atom-branch-self-requires
 atom-branch-self-requires t c = (
   if_cond_there (names_of c.args.known) c.args.known.end c.args.depth c.requires c.args.self.now c.condition-in-If.new.self _
-      (subst (λ w. GuardRead (names_of c.args.known) c.args.known.end c.args.depth c.args.self.now c.condition-in-If.new.self (said w) mark.Then c.in-ok-c-2.c) c.in-If.is c.in-ok-c-2.ensures)
-      c.inside-in-If.new.self _ c.in-ok-p.ensures c.inside-in-If-2.new.self _ c.in-ok-q.ensures,
+      (subst (λ w. GuardRead (names_of c.args.known) c.args.known.end c.args.depth c.args.self.now c.condition-in-If.new.self (said w) mark.Then c.in_ok-c-2.c) c.in-If.is c.in_ok-c-2.ensures)
+      c.inside-in-If.new.self _ c.in_ok-p.ensures c.inside-in-If-2.new.self _ c.in_ok-q.ensures,
   if_then_there (names_of c.args.known) c.args.known.end c.args.depth c.requires c.args.self.now c.condition-in-If.new.self _
-      (subst (λ w. GuardRead (names_of c.args.known) c.args.known.end c.args.depth c.args.self.now c.condition-in-If.new.self (said w) mark.Then c.in-ok-c-2.c) c.in-If.is c.in-ok-c-2.ensures)
-      c.inside-in-If.new.self _ c.in-ok-p.ensures c.inside-in-If-2.new.self _ c.in-ok-q.ensures,
-  c.in-ok-q.ensures.there,
+      (subst (λ w. GuardRead (names_of c.args.known) c.args.known.end c.args.depth c.args.self.now c.condition-in-If.new.self (said w) mark.Then c.in_ok-c-2.c) c.in-If.is c.in_ok-c-2.ensures)
+      c.inside-in-If.new.self _ c.in_ok-p.ensures c.inside-in-If-2.new.self _ c.in_ok-q.ensures,
+  c.in_ok-q.ensures.there,
 )
 
-pub atom-returns-in-err-c-3 : goal.atom-returns-in-err-c-3
-atom-returns-in-err-c-3 t c =
-    let p = err_from_is_err_and c.from-residual-in-err-c-3.result c.from-residual-in-err-c-3.ensures.1 in
-    rw (p.1, p.2) (while_refused (names_of c.args.known) c.args.known.end c.args.depth c.requires c.args.self.now c.in-err-c-3.field-0.0
-    (subst (λ w. GuardRefused (names_of c.args.known) c.args.known.end c.args.depth c.args.self.now (said w) mark.Do c.in-err-c-3.field-0.0) c.in-While.is c.in-err-c-3.ensures))
+pub atom-returns-in_err-c-3 : goal.atom-returns-in_err-c-3
+atom-returns-in_err-c-3 t c =
+    let p = err_from_is_err_and c.from_residual-in_err-c-3.result c.from_residual-in_err-c-3.ensures.1 in
+    rw (p.1, p.2) (while_refused (names_of c.args.known) c.args.known.end c.args.depth c.requires c.args.self.now c.in_err-c-3.field-0.0
+    (subst (λ w. GuardRefused (names_of c.args.known) c.args.known.end c.args.depth c.args.self.now (said w) mark.Do c.in_err-c-3.field-0.0) c.in-While.is c.in_err-c-3.ensures))
 
-pub atom-returns-in-err-p-2 : goal.atom-returns-in-err-p-2
-atom-returns-in-err-p-2 t c =
-    let p = err_from_is_err_and c.from-residual-in-err-p-2.result c.from-residual-in-err-p-2.ensures.1 in
+pub atom-returns-in_err-p-2 : goal.atom-returns-in_err-p-2
+atom-returns-in_err-p-2 t c =
+    let p = err_from_is_err_and c.from_residual-in_err-p-2.result c.from_residual-in_err-p-2.ensures.1 in
     rw (p.1, p.2) (do_refused (names_of c.args.known) c.args.known.end c.args.depth c.requires c.args.self.now c.condition-in-While.new.self _
-    (subst (λ w. GuardRead (names_of c.args.known) c.args.known.end c.args.depth c.args.self.now c.condition-in-While.new.self (said w) mark.Do c.in-ok-c-3.c) c.in-While.is c.in-ok-c-3.ensures)
-    c.in-err-p-2.field-0.0 c.in-err-p-2.ensures)
+    (subst (λ w. GuardRead (names_of c.args.known) c.args.known.end c.args.depth c.args.self.now c.condition-in-While.new.self (said w) mark.Do c.in_ok-c-3.c) c.in-While.is c.in_ok-c-3.ensures)
+    c.in_err-p-2.field-0.0 c.in_err-p-2.ensures)
 
 pub atom-repeat-requires : goal.atom-repeat-requires
 atom-repeat-requires t c = (
   while_cond_there (names_of c.args.known) c.args.known.end c.args.depth c.requires c.args.self.now c.condition-in-While.new.self _
-      (subst (λ w. GuardRead (names_of c.args.known) c.args.known.end c.args.depth c.args.self.now c.condition-in-While.new.self (said w) mark.Do c.in-ok-c-3.c) c.in-While.is c.in-ok-c-3.ensures)
-      c.inside-in-While.new.self _ c.in-ok-p-2.ensures,
-  c.in-ok-p-2.ensures.there,
+      (subst (λ w. GuardRead (names_of c.args.known) c.args.known.end c.args.depth c.args.self.now c.condition-in-While.new.self (said w) mark.Do c.in_ok-c-3.c) c.in-While.is c.in_ok-c-3.ensures)
+      c.inside-in-While.new.self _ c.in_ok-p-2.ensures,
+  c.in_ok-p-2.ensures.there,
 )
 
-pub atom-returns-in-ok-i : goal.atom-returns-in-ok-i
-atom-returns-in-ok-i t c =
+pub atom-returns-in_ok-i : goal.atom-returns-in_ok-i
+atom-returns-in_ok-i t c =
     test_read (names_of c.args.known) c.args.known.end c.args.depth c.requires c.args.self.now c.condition.new.self c.node.new.self _ _
-    (subst (λ w. GuardRead (names_of c.args.known) c.args.known.end c.args.depth c.args.self.now c.condition.new.self (said w) mark.CloseSquare c.in-ok-c.c) c.in-OpenSquare.is c.in-ok-c.ensures)
-    c.in-ok-i.ensures
+    (subst (λ w. GuardRead (names_of c.args.known) c.args.known.end c.args.depth c.args.self.now c.condition.new.self (said w) mark.CloseSquare c.in_ok-c.c) c.in-OpenSquare.is c.in_ok-c.ensures)
+    c.in_ok-i.ensures
 
-pub atom-returns-in-ok-i-2 : goal.atom-returns-in-ok-i-2
-atom-returns-in-ok-i-2 t c =
-    round_read (names_of c.args.known) c.args.known.end c.args.depth c.requires c.args.self.now c.open.new.self _ c.in-ok-inner.ensures.0 c.in-ok-inner.ensures.1
-    (subst (λ w. Taken c.args.self.now c.open.new.self (said w)) c.in-Open.is c.in-ok-inner.ensures.2)
-    c.inside.new.self _ c.in-ok-i-2.ensures
+pub atom-returns-in_ok-i-2 : goal.atom-returns-in_ok-i-2
+atom-returns-in_ok-i-2 t c =
+    round_read (names_of c.args.known) c.args.known.end c.args.depth c.requires c.args.self.now c.open.new.self _ c.in_ok-inner.ensures.0 c.in_ok-inner.ensures.1
+    (subst (λ w. Taken c.args.self.now c.open.new.self (said w)) c.in-Open.is c.in_ok-inner.ensures.2)
+    c.inside.new.self _ c.in_ok-i-2.ensures
 
-pub atom-returns-in-ok-i-3 : goal.atom-returns-in-ok-i-3
-atom-returns-in-ok-i-3 t c =
+pub atom-returns-in_ok-i-3 : goal.atom-returns-in_ok-i-3
+atom-returns-in_ok-i-3 t c =
     if_read (names_of c.args.known) c.args.known.end c.args.depth c.requires c.args.self.now c.condition-in-If.new.self _
-    (subst (λ w. GuardRead (names_of c.args.known) c.args.known.end c.args.depth c.args.self.now c.condition-in-If.new.self (said w) mark.Then c.in-ok-c-2.c) c.in-If.is c.in-ok-c-2.ensures)
-    c.inside-in-If.new.self _ c.in-ok-p.ensures c.inside-in-If-2.new.self _ c.in-ok-q.ensures
-    c.branch-self.new.self _ c.in-ok-i-3.ensures
+    (subst (λ w. GuardRead (names_of c.args.known) c.args.known.end c.args.depth c.args.self.now c.condition-in-If.new.self (said w) mark.Then c.in_ok-c-2.c) c.in-If.is c.in_ok-c-2.ensures)
+    c.inside-in-If.new.self _ c.in_ok-p.ensures c.inside-in-If-2.new.self _ c.in_ok-q.ensures
+    c.branch-self.new.self _ c.in_ok-i-3.ensures
 
-pub atom-returns-in-ok-i-4 : goal.atom-returns-in-ok-i-4
-atom-returns-in-ok-i-4 t c =
+pub atom-returns-in_ok-i-4 : goal.atom-returns-in_ok-i-4
+atom-returns-in_ok-i-4 t c =
     while_read (names_of c.args.known) c.args.known.end c.args.depth c.requires c.args.self.now c.condition-in-While.new.self _
-    (subst (λ w. GuardRead (names_of c.args.known) c.args.known.end c.args.depth c.args.self.now c.condition-in-While.new.self (said w) mark.Do c.in-ok-c-3.c) c.in-While.is c.in-ok-c-3.ensures)
-    c.inside-in-While.new.self _ c.in-ok-p-2.ensures
-    c.repeat.new.self _ c.in-ok-i-4.ensures
+    (subst (λ w. GuardRead (names_of c.args.known) c.args.known.end c.args.depth c.args.self.now c.condition-in-While.new.self (said w) mark.Do c.in_ok-c-3.c) c.in-While.is c.in_ok-c-3.ensures)
+    c.inside-in-While.new.self _ c.in_ok-p-2.ensures
+    c.repeat.new.self _ c.in_ok-i-4.ensures

@@ -14,107 +14,107 @@ use Rattle.text.proofs.Stepping.{takes_yes, takes_no, nameless_tells}
 use Rattle.text.proofs.Conditions.{constant_read, constant_refused, conjunction_read, conjunction_over, conjunction_refused, and_joined, disjunction_read, disjunction_over, disjunction_refused, or_joined, negation_read, negation_over, negation_refused, bracket_read, bracket_over, bracket_refused, bracket_unclosed, fact_is, fact_unknown, true_is, false_is}
 use Rattle.text.proofs.reader.Reader.+conjunction_disjunction_literal.Goals as goal
 
-pub conjunction-returns-in-err-takes : goal.conjunction-returns-in-err-takes
-conjunction-returns-in-err-takes t c =
-    let p = err_from_is_err_and c.from-residual-in-err-takes.result c.from-residual-in-err-takes.ensures.1 in
-    rw (p.1, p.2) (conjunction_over (names_of c.args.known) c.args.known.end c.args.depth c.requires c.args.self.now c.literal.new.self _ _ c.in-ok-left.ensures c.loop-self.self c.loop-self.invariant
-    c.in-err-takes.field-0.0 c.in-err-takes.ensures)
+pub conjunction-returns-in_err-takes : goal.conjunction-returns-in_err-takes
+conjunction-returns-in_err-takes t c =
+    let p = err_from_is_err_and c.from_residual-in_err-takes.result c.from_residual-in_err-takes.ensures.1 in
+    rw (p.1, p.2) (conjunction_over (names_of c.args.known) c.args.known.end c.args.depth c.requires c.args.self.now c.literal.new.self _ _ c.in_ok-left.ensures c.loop-self.self c.loop-self.invariant
+    c.in_err-takes.field-0.0 c.in_err-takes.ensures)
 
-pub conjunction-returns-in-err-right : goal.conjunction-returns-in-err-right
-conjunction-returns-in-err-right t c =
-    let p = err_from_is_err_and c.from-residual-in-err-right.result c.from-residual-in-err-right.ensures.1 in
-    rw (p.1, p.2) (conjunction_refused (names_of c.args.known) c.args.known.end c.args.depth c.requires c.args.self.now c.literal.new.self _ _ c.in-ok-left.ensures c.loop-self.self c.loop-self.invariant
-    c.takes.new.self (takes_yes _ c.loop-self.self c.takes.new.self And c.if-branch.true c.in-ok-takes.ensures)
-    c.in-err-right.field-0.0 c.in-err-right.ensures)
+pub conjunction-returns-in_err-right : goal.conjunction-returns-in_err-right
+conjunction-returns-in_err-right t c =
+    let p = err_from_is_err_and c.from_residual-in_err-right.result c.from_residual-in_err-right.ensures.1 in
+    rw (p.1, p.2) (conjunction_refused (names_of c.args.known) c.args.known.end c.args.depth c.requires c.args.self.now c.literal.new.self _ _ c.in_ok-left.ensures c.loop-self.self c.loop-self.invariant
+    c.takes.new.self (takes_yes _ c.loop-self.self c.takes.new.self And c.if-branch.true c.in_ok-takes.ensures)
+    c.in_err-right.field-0.0 c.in_err-right.ensures)
 
 pub conjunction-loop-self-preserved : goal.conjunction-loop-self-preserved
 conjunction-loop-self-preserved t c =
-    and_joined (names_of c.args.known) c.args.known.end c.args.depth c.requires c.literal.new.self c.in-ok-left.left c.loop-self.self c.loop-self.left c.loop-self.invariant
-    c.takes.new.self _ c.clause.new.self _ _ (takes_yes _ c.loop-self.self c.takes.new.self And c.if-branch.true c.in-ok-takes.ensures)
-    c.in-ok-right.ensures c.in-ok-left-2.ensures
+    and_joined (names_of c.args.known) c.args.known.end c.args.depth c.requires c.literal.new.self c.in_ok-left.left c.loop-self.self c.loop-self.left c.loop-self.invariant
+    c.takes.new.self _ c.clause.new.self _ _ (takes_yes _ c.loop-self.self c.takes.new.self And c.if-branch.true c.in_ok-takes.ensures)
+    c.in_ok-right.ensures c.in_ok-left-2.ensures
 
 pub conjunction-returns : goal.conjunction-returns
 conjunction-returns t c =
-    let no = takes_no _ c.loop-self.self c.takes.new.self And c.if-branch.false c.in-ok-takes.ensures in
+    let no = takes_no _ c.loop-self.self c.takes.new.self And c.if-branch.false c.in_ok-takes.ensures in
     subst (λ u. CondRead conjunction (names_of c.args.known) c.args.known.end c.args.depth c.args.self.now u c.loop-self.left) (sym no.0)
-    (conjunction_read (names_of c.args.known) c.args.known.end c.args.depth c.requires c.args.self.now c.literal.new.self _ _ c.in-ok-left.ensures c.loop-self.self c.loop-self.invariant no.1)
+    (conjunction_read (names_of c.args.known) c.args.known.end c.args.depth c.requires c.args.self.now c.literal.new.self _ _ c.in_ok-left.ensures c.loop-self.self c.loop-self.invariant no.1)
 
-pub disjunction-returns-in-err-left : goal.disjunction-returns-in-err-left
-disjunction-returns-in-err-left t c =
-    let p = err_from_is_err_and c.from-residual.result c.from-residual.ensures.1 in
-    rw (p.1, p.2) (λ K A B L O o e. c.in-err-left.ensures K A B L (none, none) o e)
+pub disjunction-returns-in_err-left : goal.disjunction-returns-in_err-left
+disjunction-returns-in_err-left t c =
+    let p = err_from_is_err_and c.from_residual.result c.from_residual.ensures.1 in
+    rw (p.1, p.2) (λ K A B L O o e. c.in_err-left.ensures K A B L (none, none) o e)
 
-pub disjunction-returns-in-err-takes : goal.disjunction-returns-in-err-takes
-disjunction-returns-in-err-takes t c =
-    let p = err_from_is_err_and c.from-residual-in-err-takes.result c.from-residual-in-err-takes.ensures.1 in
-    rw (p.1, p.2) (disjunction_over (names_of c.args.known) c.args.known.end c.args.depth c.requires c.args.self.now c.conjunction.new.self _ _ c.in-ok-left.ensures c.loop-self.self c.loop-self.invariant
-    c.in-err-takes.field-0.0 c.in-err-takes.ensures)
+pub disjunction-returns-in_err-takes : goal.disjunction-returns-in_err-takes
+disjunction-returns-in_err-takes t c =
+    let p = err_from_is_err_and c.from_residual-in_err-takes.result c.from_residual-in_err-takes.ensures.1 in
+    rw (p.1, p.2) (disjunction_over (names_of c.args.known) c.args.known.end c.args.depth c.requires c.args.self.now c.conjunction.new.self _ _ c.in_ok-left.ensures c.loop-self.self c.loop-self.invariant
+    c.in_err-takes.field-0.0 c.in_err-takes.ensures)
 
-pub disjunction-returns-in-err-right : goal.disjunction-returns-in-err-right
-disjunction-returns-in-err-right t c =
-    let p = err_from_is_err_and c.from-residual-in-err-right.result c.from-residual-in-err-right.ensures.1 in
-    rw (p.1, p.2) (disjunction_refused (names_of c.args.known) c.args.known.end c.args.depth c.requires c.args.self.now c.conjunction.new.self _ _ c.in-ok-left.ensures c.loop-self.self c.loop-self.invariant
-    c.takes.new.self (takes_yes _ c.loop-self.self c.takes.new.self Or c.if-branch.true c.in-ok-takes.ensures)
-    c.in-err-right.field-0.0 c.in-err-right.ensures)
+pub disjunction-returns-in_err-right : goal.disjunction-returns-in_err-right
+disjunction-returns-in_err-right t c =
+    let p = err_from_is_err_and c.from_residual-in_err-right.result c.from_residual-in_err-right.ensures.1 in
+    rw (p.1, p.2) (disjunction_refused (names_of c.args.known) c.args.known.end c.args.depth c.requires c.args.self.now c.conjunction.new.self _ _ c.in_ok-left.ensures c.loop-self.self c.loop-self.invariant
+    c.takes.new.self (takes_yes _ c.loop-self.self c.takes.new.self Or c.if-branch.true c.in_ok-takes.ensures)
+    c.in_err-right.field-0.0 c.in_err-right.ensures)
 
 pub disjunction-loop-self-preserved : goal.disjunction-loop-self-preserved
 disjunction-loop-self-preserved t c =
-    or_joined (names_of c.args.known) c.args.known.end c.args.depth c.requires c.conjunction.new.self c.in-ok-left.left c.loop-self.self c.loop-self.left c.loop-self.invariant
-    c.takes.new.self _ c.clause.new.self _ _ (takes_yes _ c.loop-self.self c.takes.new.self Or c.if-branch.true c.in-ok-takes.ensures)
-    c.in-ok-right.ensures c.in-ok-left-2.ensures
+    or_joined (names_of c.args.known) c.args.known.end c.args.depth c.requires c.conjunction.new.self c.in_ok-left.left c.loop-self.self c.loop-self.left c.loop-self.invariant
+    c.takes.new.self _ c.clause.new.self _ _ (takes_yes _ c.loop-self.self c.takes.new.self Or c.if-branch.true c.in_ok-takes.ensures)
+    c.in_ok-right.ensures c.in_ok-left-2.ensures
 
 pub disjunction-returns : goal.disjunction-returns
 disjunction-returns t c =
-    let no = takes_no _ c.loop-self.self c.takes.new.self Or c.if-branch.false c.in-ok-takes.ensures in
+    let no = takes_no _ c.loop-self.self c.takes.new.self Or c.if-branch.false c.in_ok-takes.ensures in
     subst (λ u. CondRead disjunction (names_of c.args.known) c.args.known.end c.args.depth c.args.self.now u c.loop-self.left) (sym no.0)
-    (disjunction_read (names_of c.args.known) c.args.known.end c.args.depth c.requires c.args.self.now c.conjunction.new.self _ _ c.in-ok-left.ensures c.loop-self.self c.loop-self.invariant no.1)
+    (disjunction_read (names_of c.args.known) c.args.known.end c.args.depth c.requires c.args.self.now c.conjunction.new.self _ _ c.in_ok-left.ensures c.loop-self.self c.loop-self.invariant no.1)
 
-pub literal-returns-in-err-fact : goal.literal-returns-in-err-fact
-literal-returns-in-err-fact t c =
-    let p = err_from_is_err_and c.from-residual.result c.from-residual.ensures.1 in
+pub literal-returns-in_err-fact : goal.literal-returns-in_err-fact
+literal-returns-in_err-fact t c =
+    let p = err_from_is_err_and c.from_residual.result c.from_residual.ensures.1 in
     rw (p.1, p.2) (λ K A B L O o e.
-    nameless_tells c.args.self.now c.in-Some.token c.in-Some.is (names_of c.args.known) c.args.known.end (want_cond K A B L O) c.in-err-fact.field-0.0 _ c.in-err-fact.ensures
+    nameless_tells c.args.self.now c.in-Some.token c.in-Some.is (names_of c.args.known) c.args.known.end (want_cond K A B L O) c.in_err-fact.field-0.0 _ c.in_err-fact.ensures
     (λ n. ap (λ w. advance (names_of c.args.known) (want_cond K A B L O) (said w)) c.in-Name.is ∙ fact_unknown (names_of c.args.known) c.in-Name.name.now n K A B L O))
 
-pub literal-returns-in-err-inner : goal.literal-returns-in-err-inner
-literal-returns-in-err-inner t c =
-    let p = err_from_is_err_and c.from-residual-in-err-inner.result c.from-residual-in-err-inner.ensures.1 in
-    rw (p.1, p.2) (negation_over (names_of c.args.known) c.args.known.end c.args.depth c.args.self.now c.in-err-inner.field-0.0
-    (subst (λ w. OverDeep c.args.self.now (said w) c.args.depth c.in-err-inner.field-0.0) c.in-Not.is c.in-err-inner.ensures))
+pub literal-returns-in_err-inner : goal.literal-returns-in_err-inner
+literal-returns-in_err-inner t c =
+    let p = err_from_is_err_and c.from_residual-in_err-inner.result c.from_residual-in_err-inner.ensures.1 in
+    rw (p.1, p.2) (negation_over (names_of c.args.known) c.args.known.end c.args.depth c.args.self.now c.in_err-inner.field-0.0
+    (subst (λ w. OverDeep c.args.self.now (said w) c.args.depth c.in_err-inner.field-0.0) c.in-Not.is c.in_err-inner.ensures))
 
-pub literal-returns-in-err-part : goal.literal-returns-in-err-part
-literal-returns-in-err-part t c =
-    let p = err_from_is_err_and c.from-residual-in-err-part.result c.from-residual-in-err-part.ensures.1 in
-    rw (p.1, p.2) (negation_refused (names_of c.args.known) c.args.known.end c.args.depth c.args.self.now c.open.new.self _ c.in-ok-inner.ensures.0 c.in-ok-inner.ensures.1
-    (subst (λ w. Taken c.args.self.now c.open.new.self (said w)) c.in-Not.is c.in-ok-inner.ensures.2)
-    c.in-err-part.field-0.0 c.in-err-part.ensures)
+pub literal-returns-in_err-part : goal.literal-returns-in_err-part
+literal-returns-in_err-part t c =
+    let p = err_from_is_err_and c.from_residual-in_err-part.result c.from_residual-in_err-part.ensures.1 in
+    rw (p.1, p.2) (negation_refused (names_of c.args.known) c.args.known.end c.args.depth c.args.self.now c.open.new.self _ c.in_ok-inner.ensures.0 c.in_ok-inner.ensures.1
+    (subst (λ w. Taken c.args.self.now c.open.new.self (said w)) c.in-Not.is c.in_ok-inner.ensures.2)
+    c.in_err-part.field-0.0 c.in_err-part.ensures)
 
-pub literal-returns-in-err-inner-2 : goal.literal-returns-in-err-inner-2
-literal-returns-in-err-inner-2 t c =
-    let p = err_from_is_err_and c.from-residual-in-err-inner-2.result c.from-residual-in-err-inner-2.ensures.1 in
-    rw (p.1, p.2) (bracket_over (names_of c.args.known) c.args.known.end c.args.depth c.args.self.now c.in-err-inner-2.field-0.0
-    (subst (λ w. OverDeep c.args.self.now (said w) c.args.depth c.in-err-inner-2.field-0.0) c.in-Open.is c.in-err-inner-2.ensures))
+pub literal-returns-in_err-inner-2 : goal.literal-returns-in_err-inner-2
+literal-returns-in_err-inner-2 t c =
+    let p = err_from_is_err_and c.from_residual-in_err-inner-2.result c.from_residual-in_err-inner-2.ensures.1 in
+    rw (p.1, p.2) (bracket_over (names_of c.args.known) c.args.known.end c.args.depth c.args.self.now c.in_err-inner-2.field-0.0
+    (subst (λ w. OverDeep c.args.self.now (said w) c.args.depth c.in_err-inner-2.field-0.0) c.in-Open.is c.in_err-inner-2.ensures))
 
-pub literal-returns-in-err-part-2 : goal.literal-returns-in-err-part-2
-literal-returns-in-err-part-2 t c =
-    let p = err_from_is_err_and c.from-residual-in-err-part-2.result c.from-residual-in-err-part-2.ensures.1 in
-    rw (p.1, p.2) (bracket_refused (names_of c.args.known) c.args.known.end c.args.depth c.args.self.now c.open-in-Open.new.self _ c.in-ok-inner-2.ensures.0 c.in-ok-inner-2.ensures.1
-    (subst (λ w. Taken c.args.self.now c.open-in-Open.new.self (said w)) c.in-Open.is c.in-ok-inner-2.ensures.2)
-    c.in-err-part-2.field-0.0 c.in-err-part-2.ensures)
+pub literal-returns-in_err-part-2 : goal.literal-returns-in_err-part-2
+literal-returns-in_err-part-2 t c =
+    let p = err_from_is_err_and c.from_residual-in_err-part-2.result c.from_residual-in_err-part-2.ensures.1 in
+    rw (p.1, p.2) (bracket_refused (names_of c.args.known) c.args.known.end c.args.depth c.args.self.now c.open-in-Open.new.self _ c.in_ok-inner-2.ensures.0 c.in_ok-inner-2.ensures.1
+    (subst (λ w. Taken c.args.self.now c.open-in-Open.new.self (said w)) c.in-Open.is c.in_ok-inner-2.ensures.2)
+    c.in_err-part-2.field-0.0 c.in_err-part-2.ensures)
 
-pub literal-returns-in-err-close : goal.literal-returns-in-err-close
-literal-returns-in-err-close t c =
-    let p = err_from_is_err_and c.from-residual-in-err-close.result c.from-residual-in-err-close.ensures.1 in
-    rw (p.1, p.2) (bracket_unclosed (names_of c.args.known) c.args.known.end c.args.depth c.args.self.now c.open-in-Open.new.self _ c.in-ok-inner-2.ensures.0 c.in-ok-inner-2.ensures.1
-    (subst (λ w. Taken c.args.self.now c.open-in-Open.new.self (said w)) c.in-Open.is c.in-ok-inner-2.ensures.2)
-    c.disjunction.new.self _ c.in-ok-part-2.ensures c.in-err-close.field-0.0 c.in-err-close.ensures)
+pub literal-returns-in_err-close : goal.literal-returns-in_err-close
+literal-returns-in_err-close t c =
+    let p = err_from_is_err_and c.from_residual-in_err-close.result c.from_residual-in_err-close.ensures.1 in
+    rw (p.1, p.2) (bracket_unclosed (names_of c.args.known) c.args.known.end c.args.depth c.args.self.now c.open-in-Open.new.self _ c.in_ok-inner-2.ensures.0 c.in_ok-inner-2.ensures.1
+    (subst (λ w. Taken c.args.self.now c.open-in-Open.new.self (said w)) c.in-Open.is c.in_ok-inner-2.ensures.2)
+    c.disjunction.new.self _ c.in_ok-part-2.ensures c.in_err-close.field-0.0 c.in_err-close.ensures)
 
-pub literal-returns-in-ok-fact : goal.literal-returns-in-ok-fact
-literal-returns-in-ok-fact t c =
+pub literal-returns-in_ok-fact : goal.literal-returns-in_ok-fact
+literal-returns-in_ok-fact t c =
     MatchResult-weaker c.constant.result c.constant.ensures
-    (λ i h. constant_read (names_of c.args.known) c.args.known.end c.args.depth c.args.self.now c.constant.new.self _ (fact c.in-ok-fact.fact) i c.requires (fact_is (names_of c.args.known) c.in-Name.name.now c.in-ok-fact.fact c.in-ok-fact.ensures)
-    (subst (λ w. CondTaken c.args.self.now c.constant.new.self (said w) (fact c.in-ok-fact.fact) i) c.in-Name.is h))
-    (λ f h. constant_refused (names_of c.args.known) c.args.known.end c.args.depth c.args.self.now _ (fact c.in-ok-fact.fact) f (fact_is (names_of c.args.known) c.in-Name.name.now c.in-ok-fact.fact c.in-ok-fact.ensures) (subst (λ w. OverDone c.args.self.now (said w) f) c.in-Name.is h))
+    (λ i h. constant_read (names_of c.args.known) c.args.known.end c.args.depth c.args.self.now c.constant.new.self _ (fact c.in_ok-fact.fact) i c.requires (fact_is (names_of c.args.known) c.in-Name.name.now c.in_ok-fact.fact c.in_ok-fact.ensures)
+    (subst (λ w. CondTaken c.args.self.now c.constant.new.self (said w) (fact c.in_ok-fact.fact) i) c.in-Name.is h))
+    (λ f h. constant_refused (names_of c.args.known) c.args.known.end c.args.depth c.args.self.now _ (fact c.in_ok-fact.fact) f (fact_is (names_of c.args.known) c.in-Name.name.now c.in_ok-fact.fact c.in_ok-fact.ensures) (subst (λ w. OverDone c.args.self.now (said w) f) c.in-Name.is h))
 
 pub literal-returns-in-True : goal.literal-returns-in-True
 literal-returns-in-True t c =
@@ -130,14 +130,14 @@ literal-returns-in-False t c =
     (subst (λ w. CondTaken c.args.self.now c.constant-in-False.new.self (said w) never i) c.in-False.is h))
     (λ f h. constant_refused (names_of c.args.known) c.args.known.end c.args.depth c.args.self.now _ never f (false_is (names_of c.args.known)) (subst (λ w. OverDone c.args.self.now (said w) f) c.in-False.is h))
 
-pub literal-returns-in-ok-i : goal.literal-returns-in-ok-i
-literal-returns-in-ok-i t c =
-    negation_read (names_of c.args.known) c.args.known.end c.args.depth c.args.self.now c.open.new.self _ c.in-ok-inner.ensures.0 c.in-ok-inner.ensures.1
-    (subst (λ w. Taken c.args.self.now c.open.new.self (said w)) c.in-Not.is c.in-ok-inner.ensures.2)
-    c.literal.new.self c.clause.new.self _ _ c.in-ok-part.ensures c.in-ok-i.ensures
+pub literal-returns-in_ok-i : goal.literal-returns-in_ok-i
+literal-returns-in_ok-i t c =
+    negation_read (names_of c.args.known) c.args.known.end c.args.depth c.args.self.now c.open.new.self _ c.in_ok-inner.ensures.0 c.in_ok-inner.ensures.1
+    (subst (λ w. Taken c.args.self.now c.open.new.self (said w)) c.in-Not.is c.in_ok-inner.ensures.2)
+    c.literal.new.self c.clause.new.self _ _ c.in_ok-part.ensures c.in_ok-i.ensures
 
-pub literal-returns-in-ok-close : goal.literal-returns-in-ok-close
-literal-returns-in-ok-close t c =
-    bracket_read (names_of c.args.known) c.args.known.end c.args.depth c.args.self.now c.open-in-Open.new.self _ c.in-ok-inner-2.ensures.0 c.in-ok-inner-2.ensures.1
-    (subst (λ w. Taken c.args.self.now c.open-in-Open.new.self (said w)) c.in-Open.is c.in-ok-inner-2.ensures.2)
-    c.disjunction.new.self _ c.in-ok-part-2.ensures c.close.new.self c.in-ok-close.ensures
+pub literal-returns-in_ok-close : goal.literal-returns-in_ok-close
+literal-returns-in_ok-close t c =
+    bracket_read (names_of c.args.known) c.args.known.end c.args.depth c.args.self.now c.open-in-Open.new.self _ c.in_ok-inner-2.ensures.0 c.in_ok-inner-2.ensures.1
+    (subst (λ w. Taken c.args.self.now c.open-in-Open.new.self (said w)) c.in-Open.is c.in_ok-inner-2.ensures.2)
+    c.disjunction.new.self _ c.in_ok-part-2.ensures c.close.new.self c.in_ok-close.ensures

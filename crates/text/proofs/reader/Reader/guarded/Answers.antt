@@ -3,5 +3,5 @@ use Rattle.text.proofs.reader.Reader.guarded.Goals as goal
 
 pub returns : goal.returns
 returns c =
-    guarded_built c.args.self.now c.node.new.self c.node-2.new.self c.args.c c.args.p _ _ c.in-ok-t.ensures
-    c.in-ok-i.ensures c.requires
+    guarded_built c.args.self.now c.node.new.self c.node-2.new.self c.args.c c.args.p _ _ c.in_ok-t.ensures
+    c.in_ok-i.ensures c.requires

@@ -5,12 +5,12 @@ use Rattle.text.specs.Rest.{names_of}
 use Rattle.text.proofs.Programs.{nil_over, nil_read}
 use Rattle.text.proofs.reader.Reader.nil.Goals as goal
 
-pub returns-in-err-take : goal.returns-in-err-take
-returns-in-err-take c =
-    let p = err_from_is_err_and c.from-residual.result c.from-residual.ensures.1 in
-    rw (p.1, p.2) (nil_over (names_of c.args.known) c.args.known.end c.args.depth c.requires.2 c.args.self.now (said c.args.token.word) c.requires.1 c.in-err-take.field-0.0 c.in-err-take.ensures)
+pub returns-in_err-take : goal.returns-in_err-take
+returns-in_err-take c =
+    let p = err_from_is_err_and c.from_residual.result c.from_residual.ensures.1 in
+    rw (p.1, p.2) (nil_over (names_of c.args.known) c.args.known.end c.args.depth c.requires.2 c.args.self.now (said c.args.token.word) c.requires.1 c.in_err-take.field-0.0 c.in_err-take.ensures)
 
 pub returns : goal.returns
 returns c =
-    nil_read (names_of c.args.known) c.args.known.end c.args.depth c.requires.2 c.args.self.now (said c.args.token.word) c.requires.1 c.take.new.self c.clause.new.self c.node.new.self _ _ c.in-ok-take.ensures
-    c.in-ok-c.ensures c.in-ok-i.ensures
+    nil_read (names_of c.args.known) c.args.known.end c.args.depth c.requires.2 c.args.self.now (said c.args.token.word) c.requires.1 c.take.new.self c.clause.new.self c.node.new.self _ _ c.in_ok-take.ensures
+    c.in_ok-c.ensures c.in_ok-i.ensures

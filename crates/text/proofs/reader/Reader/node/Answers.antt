@@ -5,9 +5,9 @@ use Rattle.text.proofs.reader.Reader.node.Goals as goal
 pub returns : goal.returns
 returns c =
     let t = c.args.self.now.tree in
-    let u = c.add-node.new.self in
+    let u = c.add_node.new.self in
     let x = c.args.node in
-    let a = c.in-ok-i.ensures in
+    let a = c.in_ok-i.ensures in
     record {
       unmoved = record { rests = refl; counts = refl; acts = refl };
       grows = grows_node t u x a.clauses a.nodes.2;

@@ -2,12 +2,12 @@ use Rattle.std.proofs.Common.{suc, refl, arith, rules}
 use Rattle.text.proofs.Stepping.{too_many, too_many_acts, stopped_act, passed_fewer, passed_act_on}
 use Rattle.text.proofs.reader.Reader.take_act.Goals as goal
 
-pub returns-then-self-ge-MOST-WORDS : goal.returns-then-self-ge-MOST-WORDS
-returns-then-self-ge-MOST-WORDS c N len S U e =
+pub returns-then-self-ge-MOST_WORDS : goal.returns-then-self-ge-MOST_WORDS
+returns-then-self-ge-MOST_WORDS c N len S U e =
     stopped_act c.args.self.now c.args.token c.requires N len S U e (too_many (suc c.args.self.now.taken) (suc c.args.self.now.acts) U (omega arith))
 
-pub returns-then-self-ge-MOST-ACT-WORDS : goal.returns-then-self-ge-MOST-ACT-WORDS
-returns-then-self-ge-MOST-ACT-WORDS c N len S U e =
+pub returns-then-self-ge-MOST_ACT_WORDS : goal.returns-then-self-ge-MOST_ACT_WORDS
+returns-then-self-ge-MOST_ACT_WORDS c N len S U e =
     stopped_act c.args.self.now c.args.token c.requires N len S U e (too_many_acts (suc c.args.self.now.taken) (suc c.args.self.now.acts) U (omega arith))
 
 pub returns : goal.returns

@@ -4,26 +4,26 @@ use Rattle.text.specs.Rest.{both_names}
 use Rattle.text.proofs.Texts.{first_rest, reading_begins, whole_refused, whole_read, whole_unplaced}
 use Rattle.text.proofs.reader.whole.read_whole.Goals as goal
 
-pub returns-in-err-root : goal.returns-in-err-root
-returns-in-err-root c =
-    let p = err_from_is_err_and c.from-residual.result c.from-residual.ensures.1 in
+pub returns-in_err-root : goal.returns-in_err-root
+returns-in_err-root c =
+    let p = err_from_is_err_and c.from_residual.result c.from_residual.ensures.1 in
     let N = both_names c.args.facts.now c.args.acts.now in
     rw (p.1, p.2) (whole_refused N c.args.text.now _
     (reading_begins N c.args.text.now _ (first_rest c.next-ahead.result c.new-words.result c.next-ahead.new.self c.next-ahead.ensures ∙ c.new-words.ensures) refl refl)
-    c.in-err-root.field-0.0 c.in-err-root.ensures)
+    c.in_err-root.field-0.0 c.in_err-root.ensures)
 
 pub returns-in-Some : goal.returns-in-Some
 returns-in-Some c =
     let N = both_names c.args.facts.now c.args.acts.now in
     whole_unplaced N c.args.text.now _
     (reading_begins N c.args.text.now _ (first_rest c.next-ahead.result c.new-words.result c.next-ahead.new.self c.next-ahead.ensures ∙ c.new-words.ensures) refl refl)
-    c.choice.new.self _ c.in-ok-root.ensures c.in-Some.-token c.in-Some.is c.misplaced.result c.misplaced.ensures
+    c.choice.new.self _ c.in_ok-root.ensures c.in-Some._token c.in-Some.is c.misplaced.result c.misplaced.ensures
 
 pub returns : goal.returns
 returns c =
     let N = both_names c.args.facts.now c.args.acts.now in (
-      c.in-ok-root.ensures.there,
+      c.in_ok-root.ensures.there,
       whole_read N c.args.text.now _
           (reading_begins N c.args.text.now _ (first_rest c.next-ahead.result c.new-words.result c.next-ahead.new.self c.next-ahead.ensures ∙ c.new-words.ensures) refl refl)
-          c.choice.new.self _ c.in-ok-root.ensures c.in-default.is,
+          c.choice.new.self _ c.in_ok-root.ensures c.in_default.is,
     )
