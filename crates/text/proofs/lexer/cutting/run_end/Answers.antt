@@ -5,7 +5,7 @@ use Rattle.text.proofs.Cutting.{kind_part, gap_part, run_more, run_ends, run_all
 use Rattle.text.proofs.lexer.cutting.run_end.Goals as goal
 
 pub loop-i-init : goal.loop-i-init
-loop-i-init c = gap_part c.args.text.now c.args.start c.requires.0 (sym c.requires.1)
+loop-i-init c = gap_part c.args.text.now c.args.start c.requires.start_in_bounds (sym c.requires.start_value)
 
 pub returns-in_default : goal.returns-in_default
 returns-in_default c =

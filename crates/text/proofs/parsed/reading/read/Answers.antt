@@ -9,7 +9,7 @@ invariant_of-result c =
     let w = c.in_ok-tree.ensures in
     let b = read_bounds (both_names c.args.facts.now c.args.acts.now) c.args.text.now (prog_at c.in_ok-tree.tree c.in_ok-tree.root) c.count.result c.count-2.result
     c.count.ensures c.count-2.ensures w.1 in
-    (w.0, (b.0, (b.1, (b.2, tt))))
+    record { there = w.0; of_facts = b.0; of_acts = b.1; few = b.2 }
 
 pub returns : goal.returns
 returns c =

@@ -97,99 +97,99 @@ pub inside-returns : goal.inside-returns
 inside-returns t c =
     inside_read (names_of c.args.known) c.args.known.end c.args.depth c.args.self.now c.args.mark c.choice.new.self _ c.in_ok-part.ensures c.close.new.self c.in_ok-close.ensures
 
-pub atom-returns-in_err-c : goal.atom-returns-in_err-c
-atom-returns-in_err-c t c =
+pub atom-returns-in_err-c-in-OpenSquare : goal.atom-returns-in_err-c-in-OpenSquare
+atom-returns-in_err-c-in-OpenSquare t c =
     let p = err_from_is_err_and c.from_residual.result c.from_residual.ensures.1 in
-    rw (p.1, p.2) (test_refused (names_of c.args.known) c.args.known.end c.args.depth c.requires c.args.self.now c.in_err-c.field-0.0
-    (subst (λ w. GuardRefused (names_of c.args.known) c.args.known.end c.args.depth c.args.self.now (said w) mark.CloseSquare c.in_err-c.field-0.0) c.in-OpenSquare.is c.in_err-c.ensures))
+    rw (p.1, p.2) (test_refused (names_of c.args.known) c.args.known.end c.args.depth c.requires c.args.self.now c.in_err-c-in-OpenSquare.field-0.0
+    (subst (λ w. GuardRefused (names_of c.args.known) c.args.known.end c.args.depth c.args.self.now (said w) mark.CloseSquare c.in_err-c-in-OpenSquare.field-0.0) c.in-OpenSquare.is c.in_err-c-in-OpenSquare.ensures))
 
-pub atom-returns-in_err-inner : goal.atom-returns-in_err-inner
-atom-returns-in_err-inner t c =
-    let p = err_from_is_err_and c.from_residual-in_err-inner.result c.from_residual-in_err-inner.ensures.1 in
-    rw (p.1, p.2) (round_over (names_of c.args.known) c.args.known.end c.args.depth c.requires c.args.self.now c.in_err-inner.field-0.0
-    (subst (λ w. OverDeep c.args.self.now (said w) c.args.depth c.in_err-inner.field-0.0) c.in-Open.is c.in_err-inner.ensures))
+pub atom-returns-in_err-inner-in-Open : goal.atom-returns-in_err-inner-in-Open
+atom-returns-in_err-inner-in-Open t c =
+    let p = err_from_is_err_and c.from_residual-in_err-inner-in-Open.result c.from_residual-in_err-inner-in-Open.ensures.1 in
+    rw (p.1, p.2) (round_over (names_of c.args.known) c.args.known.end c.args.depth c.requires c.args.self.now c.in_err-inner-in-Open.field-0.0
+    (subst (λ w. OverDeep c.args.self.now (said w) c.args.depth c.in_err-inner-in-Open.field-0.0) c.in-Open.is c.in_err-inner-in-Open.ensures))
 
-pub atom-returns-in_err-i-2 : goal.atom-returns-in_err-i-2
-atom-returns-in_err-i-2 t c =
-    let p = err_from_is_err_and c.from_residual-in_err-i-2.result c.from_residual-in_err-i-2.ensures.1 in
-    rw (p.1, p.2) (round_refused (names_of c.args.known) c.args.known.end c.args.depth c.requires c.args.self.now c.open.new.self _ c.in_ok-inner.ensures.0 c.in_ok-inner.ensures.1
-    (subst (λ w. Taken c.args.self.now c.open.new.self (said w)) c.in-Open.is c.in_ok-inner.ensures.2)
-    c.in_err-i-2.field-0.0 c.in_err-i-2.ensures)
+pub atom-returns-in_err-i-in-Open : goal.atom-returns-in_err-i-in-Open
+atom-returns-in_err-i-in-Open t c =
+    let p = err_from_is_err_and c.from_residual-in_err-i-in-Open.result c.from_residual-in_err-i-in-Open.ensures.1 in
+    rw (p.1, p.2) (round_refused (names_of c.args.known) c.args.known.end c.args.depth c.requires c.args.self.now c.open.new.self _ c.in_ok-inner-in-Open.ensures.0 c.in_ok-inner-in-Open.ensures.1
+    (subst (λ w. Taken c.args.self.now c.open.new.self (said w)) c.in-Open.is c.in_ok-inner-in-Open.ensures.2)
+    c.in_err-i-in-Open.field-0.0 c.in_err-i-in-Open.ensures)
 
-pub atom-returns-in_err-c-2 : goal.atom-returns-in_err-c-2
-atom-returns-in_err-c-2 t c =
-    let p = err_from_is_err_and c.from_residual-in_err-c-2.result c.from_residual-in_err-c-2.ensures.1 in
-    rw (p.1, p.2) (if_refused (names_of c.args.known) c.args.known.end c.args.depth c.requires c.args.self.now c.in_err-c-2.field-0.0
-    (subst (λ w. GuardRefused (names_of c.args.known) c.args.known.end c.args.depth c.args.self.now (said w) mark.Then c.in_err-c-2.field-0.0) c.in-If.is c.in_err-c-2.ensures))
+pub atom-returns-in_err-c-in-If : goal.atom-returns-in_err-c-in-If
+atom-returns-in_err-c-in-If t c =
+    let p = err_from_is_err_and c.from_residual-in_err-c-in-If.result c.from_residual-in_err-c-in-If.ensures.1 in
+    rw (p.1, p.2) (if_refused (names_of c.args.known) c.args.known.end c.args.depth c.requires c.args.self.now c.in_err-c-in-If.field-0.0
+    (subst (λ w. GuardRefused (names_of c.args.known) c.args.known.end c.args.depth c.args.self.now (said w) mark.Then c.in_err-c-in-If.field-0.0) c.in-If.is c.in_err-c-in-If.ensures))
 
-pub atom-returns-in_err-p : goal.atom-returns-in_err-p
-atom-returns-in_err-p t c =
-    let p = err_from_is_err_and c.from_residual-in_err-p.result c.from_residual-in_err-p.ensures.1 in
+pub atom-returns-in_err-p-in-If : goal.atom-returns-in_err-p-in-If
+atom-returns-in_err-p-in-If t c =
+    let p = err_from_is_err_and c.from_residual-in_err-p-in-If.result c.from_residual-in_err-p-in-If.ensures.1 in
     rw (p.1, p.2) (then_refused (names_of c.args.known) c.args.known.end c.args.depth c.requires c.args.self.now c.condition-in-If.new.self _
-    (subst (λ w. GuardRead (names_of c.args.known) c.args.known.end c.args.depth c.args.self.now c.condition-in-If.new.self (said w) mark.Then c.in_ok-c-2.c) c.in-If.is c.in_ok-c-2.ensures)
-    c.in_err-p.field-0.0 c.in_err-p.ensures)
+    (subst (λ w. GuardRead (names_of c.args.known) c.args.known.end c.args.depth c.args.self.now c.condition-in-If.new.self (said w) mark.Then c.in_ok-c-in-If.c) c.in-If.is c.in_ok-c-in-If.ensures)
+    c.in_err-p-in-If.field-0.0 c.in_err-p-in-If.ensures)
 
-pub atom-returns-in_err-q : goal.atom-returns-in_err-q
-atom-returns-in_err-q t c =
-    let p = err_from_is_err_and c.from_residual-in_err-q.result c.from_residual-in_err-q.ensures.1 in
+pub atom-returns-in_err-q-in-If : goal.atom-returns-in_err-q-in-If
+atom-returns-in_err-q-in-If t c =
+    let p = err_from_is_err_and c.from_residual-in_err-q-in-If.result c.from_residual-in_err-q-in-If.ensures.1 in
     rw (p.1, p.2) (else_refused (names_of c.args.known) c.args.known.end c.args.depth c.requires c.args.self.now c.condition-in-If.new.self _
-    (subst (λ w. GuardRead (names_of c.args.known) c.args.known.end c.args.depth c.args.self.now c.condition-in-If.new.self (said w) mark.Then c.in_ok-c-2.c) c.in-If.is c.in_ok-c-2.ensures)
-    c.inside-in-If.new.self _ c.in_ok-p.ensures c.in_err-q.field-0.0 c.in_err-q.ensures)
+    (subst (λ w. GuardRead (names_of c.args.known) c.args.known.end c.args.depth c.args.self.now c.condition-in-If.new.self (said w) mark.Then c.in_ok-c-in-If.c) c.in-If.is c.in_ok-c-in-If.ensures)
+    c.inside-in-If.new.self _ c.in_ok-p-in-If.ensures c.in_err-q-in-If.field-0.0 c.in_err-q-in-If.ensures)
 
 pub atom-branch-self-requires : goal.atom-branch-self-requires
-atom-branch-self-requires t c = (
-  if_cond_there (names_of c.args.known) c.args.known.end c.args.depth c.requires c.args.self.now c.condition-in-If.new.self _
-      (subst (λ w. GuardRead (names_of c.args.known) c.args.known.end c.args.depth c.args.self.now c.condition-in-If.new.self (said w) mark.Then c.in_ok-c-2.c) c.in-If.is c.in_ok-c-2.ensures)
-      c.inside-in-If.new.self _ c.in_ok-p.ensures c.inside-in-If-2.new.self _ c.in_ok-q.ensures,
-  if_then_there (names_of c.args.known) c.args.known.end c.args.depth c.requires c.args.self.now c.condition-in-If.new.self _
-      (subst (λ w. GuardRead (names_of c.args.known) c.args.known.end c.args.depth c.args.self.now c.condition-in-If.new.self (said w) mark.Then c.in_ok-c-2.c) c.in-If.is c.in_ok-c-2.ensures)
-      c.inside-in-If.new.self _ c.in_ok-p.ensures c.inside-in-If-2.new.self _ c.in_ok-q.ensures,
-  c.in_ok-q.ensures.there,
-)
+atom-branch-self-requires t c = (record {
+  c_in_bounds = if_cond_there (names_of c.args.known) c.args.known.end c.args.depth c.requires c.args.self.now c.condition-in-If.new.self _
+      (subst (λ w. GuardRead (names_of c.args.known) c.args.known.end c.args.depth c.args.self.now c.condition-in-If.new.self (said w) mark.Then c.in_ok-c-in-If.c) c.in-If.is c.in_ok-c-in-If.ensures)
+      c.inside-in-If.new.self _ c.in_ok-p-in-If.ensures c.inside-in-If-2.new.self _ c.in_ok-q-in-If.ensures;
+  p_in_bounds = if_then_there (names_of c.args.known) c.args.known.end c.args.depth c.requires c.args.self.now c.condition-in-If.new.self _
+      (subst (λ w. GuardRead (names_of c.args.known) c.args.known.end c.args.depth c.args.self.now c.condition-in-If.new.self (said w) mark.Then c.in_ok-c-in-If.c) c.in-If.is c.in_ok-c-in-If.ensures)
+      c.inside-in-If.new.self _ c.in_ok-p-in-If.ensures c.inside-in-If-2.new.self _ c.in_ok-q-in-If.ensures;
+  q_in_bounds = c.in_ok-q-in-If.ensures.there;
+})
 
-pub atom-returns-in_err-c-3 : goal.atom-returns-in_err-c-3
-atom-returns-in_err-c-3 t c =
-    let p = err_from_is_err_and c.from_residual-in_err-c-3.result c.from_residual-in_err-c-3.ensures.1 in
-    rw (p.1, p.2) (while_refused (names_of c.args.known) c.args.known.end c.args.depth c.requires c.args.self.now c.in_err-c-3.field-0.0
-    (subst (λ w. GuardRefused (names_of c.args.known) c.args.known.end c.args.depth c.args.self.now (said w) mark.Do c.in_err-c-3.field-0.0) c.in-While.is c.in_err-c-3.ensures))
+pub atom-returns-in_err-c-in-While : goal.atom-returns-in_err-c-in-While
+atom-returns-in_err-c-in-While t c =
+    let p = err_from_is_err_and c.from_residual-in_err-c-in-While.result c.from_residual-in_err-c-in-While.ensures.1 in
+    rw (p.1, p.2) (while_refused (names_of c.args.known) c.args.known.end c.args.depth c.requires c.args.self.now c.in_err-c-in-While.field-0.0
+    (subst (λ w. GuardRefused (names_of c.args.known) c.args.known.end c.args.depth c.args.self.now (said w) mark.Do c.in_err-c-in-While.field-0.0) c.in-While.is c.in_err-c-in-While.ensures))
 
-pub atom-returns-in_err-p-2 : goal.atom-returns-in_err-p-2
-atom-returns-in_err-p-2 t c =
-    let p = err_from_is_err_and c.from_residual-in_err-p-2.result c.from_residual-in_err-p-2.ensures.1 in
+pub atom-returns-in_err-p-in-While : goal.atom-returns-in_err-p-in-While
+atom-returns-in_err-p-in-While t c =
+    let p = err_from_is_err_and c.from_residual-in_err-p-in-While.result c.from_residual-in_err-p-in-While.ensures.1 in
     rw (p.1, p.2) (do_refused (names_of c.args.known) c.args.known.end c.args.depth c.requires c.args.self.now c.condition-in-While.new.self _
-    (subst (λ w. GuardRead (names_of c.args.known) c.args.known.end c.args.depth c.args.self.now c.condition-in-While.new.self (said w) mark.Do c.in_ok-c-3.c) c.in-While.is c.in_ok-c-3.ensures)
-    c.in_err-p-2.field-0.0 c.in_err-p-2.ensures)
+    (subst (λ w. GuardRead (names_of c.args.known) c.args.known.end c.args.depth c.args.self.now c.condition-in-While.new.self (said w) mark.Do c.in_ok-c-in-While.c) c.in-While.is c.in_ok-c-in-While.ensures)
+    c.in_err-p-in-While.field-0.0 c.in_err-p-in-While.ensures)
 
 pub atom-repeat-requires : goal.atom-repeat-requires
-atom-repeat-requires t c = (
-  while_cond_there (names_of c.args.known) c.args.known.end c.args.depth c.requires c.args.self.now c.condition-in-While.new.self _
-      (subst (λ w. GuardRead (names_of c.args.known) c.args.known.end c.args.depth c.args.self.now c.condition-in-While.new.self (said w) mark.Do c.in_ok-c-3.c) c.in-While.is c.in_ok-c-3.ensures)
-      c.inside-in-While.new.self _ c.in_ok-p-2.ensures,
-  c.in_ok-p-2.ensures.there,
-)
+atom-repeat-requires t c = (record {
+  c_in_bounds = while_cond_there (names_of c.args.known) c.args.known.end c.args.depth c.requires c.args.self.now c.condition-in-While.new.self _
+      (subst (λ w. GuardRead (names_of c.args.known) c.args.known.end c.args.depth c.args.self.now c.condition-in-While.new.self (said w) mark.Do c.in_ok-c-in-While.c) c.in-While.is c.in_ok-c-in-While.ensures)
+      c.inside-in-While.new.self _ c.in_ok-p-in-While.ensures;
+  p_in_bounds = c.in_ok-p-in-While.ensures.there;
+})
 
-pub atom-returns-in_ok-i : goal.atom-returns-in_ok-i
-atom-returns-in_ok-i t c =
+pub atom-returns-in_ok-i-in-OpenSquare : goal.atom-returns-in_ok-i-in-OpenSquare
+atom-returns-in_ok-i-in-OpenSquare t c =
     test_read (names_of c.args.known) c.args.known.end c.args.depth c.requires c.args.self.now c.condition.new.self c.node.new.self _ _
-    (subst (λ w. GuardRead (names_of c.args.known) c.args.known.end c.args.depth c.args.self.now c.condition.new.self (said w) mark.CloseSquare c.in_ok-c.c) c.in-OpenSquare.is c.in_ok-c.ensures)
-    c.in_ok-i.ensures
+    (subst (λ w. GuardRead (names_of c.args.known) c.args.known.end c.args.depth c.args.self.now c.condition.new.self (said w) mark.CloseSquare c.in_ok-c-in-OpenSquare.c) c.in-OpenSquare.is c.in_ok-c-in-OpenSquare.ensures)
+    c.in_ok-i-in-OpenSquare.ensures
 
-pub atom-returns-in_ok-i-2 : goal.atom-returns-in_ok-i-2
-atom-returns-in_ok-i-2 t c =
-    round_read (names_of c.args.known) c.args.known.end c.args.depth c.requires c.args.self.now c.open.new.self _ c.in_ok-inner.ensures.0 c.in_ok-inner.ensures.1
-    (subst (λ w. Taken c.args.self.now c.open.new.self (said w)) c.in-Open.is c.in_ok-inner.ensures.2)
-    c.inside.new.self _ c.in_ok-i-2.ensures
+pub atom-returns-in_ok-i-in-Open : goal.atom-returns-in_ok-i-in-Open
+atom-returns-in_ok-i-in-Open t c =
+    round_read (names_of c.args.known) c.args.known.end c.args.depth c.requires c.args.self.now c.open.new.self _ c.in_ok-inner-in-Open.ensures.0 c.in_ok-inner-in-Open.ensures.1
+    (subst (λ w. Taken c.args.self.now c.open.new.self (said w)) c.in-Open.is c.in_ok-inner-in-Open.ensures.2)
+    c.inside.new.self _ c.in_ok-i-in-Open.ensures
 
-pub atom-returns-in_ok-i-3 : goal.atom-returns-in_ok-i-3
-atom-returns-in_ok-i-3 t c =
+pub atom-returns-in_ok-i-in-If : goal.atom-returns-in_ok-i-in-If
+atom-returns-in_ok-i-in-If t c =
     if_read (names_of c.args.known) c.args.known.end c.args.depth c.requires c.args.self.now c.condition-in-If.new.self _
-    (subst (λ w. GuardRead (names_of c.args.known) c.args.known.end c.args.depth c.args.self.now c.condition-in-If.new.self (said w) mark.Then c.in_ok-c-2.c) c.in-If.is c.in_ok-c-2.ensures)
-    c.inside-in-If.new.self _ c.in_ok-p.ensures c.inside-in-If-2.new.self _ c.in_ok-q.ensures
-    c.branch-self.new.self _ c.in_ok-i-3.ensures
+    (subst (λ w. GuardRead (names_of c.args.known) c.args.known.end c.args.depth c.args.self.now c.condition-in-If.new.self (said w) mark.Then c.in_ok-c-in-If.c) c.in-If.is c.in_ok-c-in-If.ensures)
+    c.inside-in-If.new.self _ c.in_ok-p-in-If.ensures c.inside-in-If-2.new.self _ c.in_ok-q-in-If.ensures
+    c.branch-self.new.self _ c.in_ok-i-in-If.ensures
 
-pub atom-returns-in_ok-i-4 : goal.atom-returns-in_ok-i-4
-atom-returns-in_ok-i-4 t c =
+pub atom-returns-in_ok-i-in-While : goal.atom-returns-in_ok-i-in-While
+atom-returns-in_ok-i-in-While t c =
     while_read (names_of c.args.known) c.args.known.end c.args.depth c.requires c.args.self.now c.condition-in-While.new.self _
-    (subst (λ w. GuardRead (names_of c.args.known) c.args.known.end c.args.depth c.args.self.now c.condition-in-While.new.self (said w) mark.Do c.in_ok-c-3.c) c.in-While.is c.in_ok-c-3.ensures)
-    c.inside-in-While.new.self _ c.in_ok-p-2.ensures
-    c.repeat.new.self _ c.in_ok-i-4.ensures
+    (subst (λ w. GuardRead (names_of c.args.known) c.args.known.end c.args.depth c.args.self.now c.condition-in-While.new.self (said w) mark.Do c.in_ok-c-in-While.c) c.in-While.is c.in_ok-c-in-While.ensures)
+    c.inside-in-While.new.self _ c.in_ok-p-in-While.ensures
+    c.repeat.new.self _ c.in_ok-i-in-While.ensures

@@ -69,52 +69,52 @@ disjunction-returns t c =
     subst (λ u. CondRead disjunction (names_of c.args.known) c.args.known.end c.args.depth c.args.self.now u c.loop-self.left) (sym no.0)
     (disjunction_read (names_of c.args.known) c.args.known.end c.args.depth c.requires c.args.self.now c.conjunction.new.self _ _ c.in_ok-left.ensures c.loop-self.self c.loop-self.invariant no.1)
 
-pub literal-returns-in_err-fact : goal.literal-returns-in_err-fact
-literal-returns-in_err-fact t c =
+pub literal-returns-in_err-fact-in-Name : goal.literal-returns-in_err-fact-in-Name
+literal-returns-in_err-fact-in-Name t c =
     let p = err_from_is_err_and c.from_residual.result c.from_residual.ensures.1 in
     rw (p.1, p.2) (λ K A B L O o e.
-    nameless_tells c.args.self.now c.in-Some.token c.in-Some.is (names_of c.args.known) c.args.known.end (want_cond K A B L O) c.in_err-fact.field-0.0 _ c.in_err-fact.ensures
+    nameless_tells c.args.self.now c.in-Some.token c.in-Some.is (names_of c.args.known) c.args.known.end (want_cond K A B L O) c.in_err-fact-in-Name.field-0.0 _ c.in_err-fact-in-Name.ensures
     (λ n. ap (λ w. advance (names_of c.args.known) (want_cond K A B L O) (said w)) c.in-Name.is ∙ fact_unknown (names_of c.args.known) c.in-Name.name.now n K A B L O))
 
-pub literal-returns-in_err-inner : goal.literal-returns-in_err-inner
-literal-returns-in_err-inner t c =
-    let p = err_from_is_err_and c.from_residual-in_err-inner.result c.from_residual-in_err-inner.ensures.1 in
-    rw (p.1, p.2) (negation_over (names_of c.args.known) c.args.known.end c.args.depth c.args.self.now c.in_err-inner.field-0.0
-    (subst (λ w. OverDeep c.args.self.now (said w) c.args.depth c.in_err-inner.field-0.0) c.in-Not.is c.in_err-inner.ensures))
+pub literal-returns-in_err-inner-in-Not : goal.literal-returns-in_err-inner-in-Not
+literal-returns-in_err-inner-in-Not t c =
+    let p = err_from_is_err_and c.from_residual-in_err-inner-in-Not.result c.from_residual-in_err-inner-in-Not.ensures.1 in
+    rw (p.1, p.2) (negation_over (names_of c.args.known) c.args.known.end c.args.depth c.args.self.now c.in_err-inner-in-Not.field-0.0
+    (subst (λ w. OverDeep c.args.self.now (said w) c.args.depth c.in_err-inner-in-Not.field-0.0) c.in-Not.is c.in_err-inner-in-Not.ensures))
 
-pub literal-returns-in_err-part : goal.literal-returns-in_err-part
-literal-returns-in_err-part t c =
-    let p = err_from_is_err_and c.from_residual-in_err-part.result c.from_residual-in_err-part.ensures.1 in
-    rw (p.1, p.2) (negation_refused (names_of c.args.known) c.args.known.end c.args.depth c.args.self.now c.open.new.self _ c.in_ok-inner.ensures.0 c.in_ok-inner.ensures.1
-    (subst (λ w. Taken c.args.self.now c.open.new.self (said w)) c.in-Not.is c.in_ok-inner.ensures.2)
-    c.in_err-part.field-0.0 c.in_err-part.ensures)
+pub literal-returns-in_err-part-in-Not : goal.literal-returns-in_err-part-in-Not
+literal-returns-in_err-part-in-Not t c =
+    let p = err_from_is_err_and c.from_residual-in_err-part-in-Not.result c.from_residual-in_err-part-in-Not.ensures.1 in
+    rw (p.1, p.2) (negation_refused (names_of c.args.known) c.args.known.end c.args.depth c.args.self.now c.open.new.self _ c.in_ok-inner-in-Not.ensures.0 c.in_ok-inner-in-Not.ensures.1
+    (subst (λ w. Taken c.args.self.now c.open.new.self (said w)) c.in-Not.is c.in_ok-inner-in-Not.ensures.2)
+    c.in_err-part-in-Not.field-0.0 c.in_err-part-in-Not.ensures)
 
-pub literal-returns-in_err-inner-2 : goal.literal-returns-in_err-inner-2
-literal-returns-in_err-inner-2 t c =
-    let p = err_from_is_err_and c.from_residual-in_err-inner-2.result c.from_residual-in_err-inner-2.ensures.1 in
-    rw (p.1, p.2) (bracket_over (names_of c.args.known) c.args.known.end c.args.depth c.args.self.now c.in_err-inner-2.field-0.0
-    (subst (λ w. OverDeep c.args.self.now (said w) c.args.depth c.in_err-inner-2.field-0.0) c.in-Open.is c.in_err-inner-2.ensures))
+pub literal-returns-in_err-inner-in-Open : goal.literal-returns-in_err-inner-in-Open
+literal-returns-in_err-inner-in-Open t c =
+    let p = err_from_is_err_and c.from_residual-in_err-inner-in-Open.result c.from_residual-in_err-inner-in-Open.ensures.1 in
+    rw (p.1, p.2) (bracket_over (names_of c.args.known) c.args.known.end c.args.depth c.args.self.now c.in_err-inner-in-Open.field-0.0
+    (subst (λ w. OverDeep c.args.self.now (said w) c.args.depth c.in_err-inner-in-Open.field-0.0) c.in-Open.is c.in_err-inner-in-Open.ensures))
 
-pub literal-returns-in_err-part-2 : goal.literal-returns-in_err-part-2
-literal-returns-in_err-part-2 t c =
-    let p = err_from_is_err_and c.from_residual-in_err-part-2.result c.from_residual-in_err-part-2.ensures.1 in
-    rw (p.1, p.2) (bracket_refused (names_of c.args.known) c.args.known.end c.args.depth c.args.self.now c.open-in-Open.new.self _ c.in_ok-inner-2.ensures.0 c.in_ok-inner-2.ensures.1
-    (subst (λ w. Taken c.args.self.now c.open-in-Open.new.self (said w)) c.in-Open.is c.in_ok-inner-2.ensures.2)
-    c.in_err-part-2.field-0.0 c.in_err-part-2.ensures)
+pub literal-returns-in_err-part-in-Open : goal.literal-returns-in_err-part-in-Open
+literal-returns-in_err-part-in-Open t c =
+    let p = err_from_is_err_and c.from_residual-in_err-part-in-Open.result c.from_residual-in_err-part-in-Open.ensures.1 in
+    rw (p.1, p.2) (bracket_refused (names_of c.args.known) c.args.known.end c.args.depth c.args.self.now c.open-in-Open.new.self _ c.in_ok-inner-in-Open.ensures.0 c.in_ok-inner-in-Open.ensures.1
+    (subst (λ w. Taken c.args.self.now c.open-in-Open.new.self (said w)) c.in-Open.is c.in_ok-inner-in-Open.ensures.2)
+    c.in_err-part-in-Open.field-0.0 c.in_err-part-in-Open.ensures)
 
-pub literal-returns-in_err-close : goal.literal-returns-in_err-close
-literal-returns-in_err-close t c =
-    let p = err_from_is_err_and c.from_residual-in_err-close.result c.from_residual-in_err-close.ensures.1 in
-    rw (p.1, p.2) (bracket_unclosed (names_of c.args.known) c.args.known.end c.args.depth c.args.self.now c.open-in-Open.new.self _ c.in_ok-inner-2.ensures.0 c.in_ok-inner-2.ensures.1
-    (subst (λ w. Taken c.args.self.now c.open-in-Open.new.self (said w)) c.in-Open.is c.in_ok-inner-2.ensures.2)
-    c.disjunction.new.self _ c.in_ok-part-2.ensures c.in_err-close.field-0.0 c.in_err-close.ensures)
+pub literal-returns-in_err-close-in-Open : goal.literal-returns-in_err-close-in-Open
+literal-returns-in_err-close-in-Open t c =
+    let p = err_from_is_err_and c.from_residual-in_err-close-in-Open.result c.from_residual-in_err-close-in-Open.ensures.1 in
+    rw (p.1, p.2) (bracket_unclosed (names_of c.args.known) c.args.known.end c.args.depth c.args.self.now c.open-in-Open.new.self _ c.in_ok-inner-in-Open.ensures.0 c.in_ok-inner-in-Open.ensures.1
+    (subst (λ w. Taken c.args.self.now c.open-in-Open.new.self (said w)) c.in-Open.is c.in_ok-inner-in-Open.ensures.2)
+    c.disjunction.new.self _ c.in_ok-part-in-Open.ensures c.in_err-close-in-Open.field-0.0 c.in_err-close-in-Open.ensures)
 
-pub literal-returns-in_ok-fact : goal.literal-returns-in_ok-fact
-literal-returns-in_ok-fact t c =
+pub literal-returns-in_ok-fact-in-Name : goal.literal-returns-in_ok-fact-in-Name
+literal-returns-in_ok-fact-in-Name t c =
     MatchResult-weaker c.constant.result c.constant.ensures
-    (λ i h. constant_read (names_of c.args.known) c.args.known.end c.args.depth c.args.self.now c.constant.new.self _ (fact c.in_ok-fact.fact) i c.requires (fact_is (names_of c.args.known) c.in-Name.name.now c.in_ok-fact.fact c.in_ok-fact.ensures)
-    (subst (λ w. CondTaken c.args.self.now c.constant.new.self (said w) (fact c.in_ok-fact.fact) i) c.in-Name.is h))
-    (λ f h. constant_refused (names_of c.args.known) c.args.known.end c.args.depth c.args.self.now _ (fact c.in_ok-fact.fact) f (fact_is (names_of c.args.known) c.in-Name.name.now c.in_ok-fact.fact c.in_ok-fact.ensures) (subst (λ w. OverDone c.args.self.now (said w) f) c.in-Name.is h))
+    (λ i h. constant_read (names_of c.args.known) c.args.known.end c.args.depth c.args.self.now c.constant.new.self _ (fact c.in_ok-fact-in-Name.fact) i c.requires (fact_is (names_of c.args.known) c.in-Name.name.now c.in_ok-fact-in-Name.fact c.in_ok-fact-in-Name.ensures)
+    (subst (λ w. CondTaken c.args.self.now c.constant.new.self (said w) (fact c.in_ok-fact-in-Name.fact) i) c.in-Name.is h))
+    (λ f h. constant_refused (names_of c.args.known) c.args.known.end c.args.depth c.args.self.now _ (fact c.in_ok-fact-in-Name.fact) f (fact_is (names_of c.args.known) c.in-Name.name.now c.in_ok-fact-in-Name.fact c.in_ok-fact-in-Name.ensures) (subst (λ w. OverDone c.args.self.now (said w) f) c.in-Name.is h))
 
 pub literal-returns-in-True : goal.literal-returns-in-True
 literal-returns-in-True t c =
@@ -130,14 +130,14 @@ literal-returns-in-False t c =
     (subst (λ w. CondTaken c.args.self.now c.constant-in-False.new.self (said w) never i) c.in-False.is h))
     (λ f h. constant_refused (names_of c.args.known) c.args.known.end c.args.depth c.args.self.now _ never f (false_is (names_of c.args.known)) (subst (λ w. OverDone c.args.self.now (said w) f) c.in-False.is h))
 
-pub literal-returns-in_ok-i : goal.literal-returns-in_ok-i
-literal-returns-in_ok-i t c =
-    negation_read (names_of c.args.known) c.args.known.end c.args.depth c.args.self.now c.open.new.self _ c.in_ok-inner.ensures.0 c.in_ok-inner.ensures.1
-    (subst (λ w. Taken c.args.self.now c.open.new.self (said w)) c.in-Not.is c.in_ok-inner.ensures.2)
-    c.literal.new.self c.clause.new.self _ _ c.in_ok-part.ensures c.in_ok-i.ensures
+pub literal-returns-in_ok-i-in-Not : goal.literal-returns-in_ok-i-in-Not
+literal-returns-in_ok-i-in-Not t c =
+    negation_read (names_of c.args.known) c.args.known.end c.args.depth c.args.self.now c.open.new.self _ c.in_ok-inner-in-Not.ensures.0 c.in_ok-inner-in-Not.ensures.1
+    (subst (λ w. Taken c.args.self.now c.open.new.self (said w)) c.in-Not.is c.in_ok-inner-in-Not.ensures.2)
+    c.literal.new.self c.clause.new.self _ _ c.in_ok-part-in-Not.ensures c.in_ok-i-in-Not.ensures
 
-pub literal-returns-in_ok-close : goal.literal-returns-in_ok-close
-literal-returns-in_ok-close t c =
-    bracket_read (names_of c.args.known) c.args.known.end c.args.depth c.args.self.now c.open-in-Open.new.self _ c.in_ok-inner-2.ensures.0 c.in_ok-inner-2.ensures.1
-    (subst (λ w. Taken c.args.self.now c.open-in-Open.new.self (said w)) c.in-Open.is c.in_ok-inner-2.ensures.2)
-    c.disjunction.new.self _ c.in_ok-part-2.ensures c.close.new.self c.in_ok-close.ensures
+pub literal-returns-in_ok-close-in-Open : goal.literal-returns-in_ok-close-in-Open
+literal-returns-in_ok-close-in-Open t c =
+    bracket_read (names_of c.args.known) c.args.known.end c.args.depth c.args.self.now c.open-in-Open.new.self _ c.in_ok-inner-in-Open.ensures.0 c.in_ok-inner-in-Open.ensures.1
+    (subst (λ w. Taken c.args.self.now c.open-in-Open.new.self (said w)) c.in-Open.is c.in_ok-inner-in-Open.ensures.2)
+    c.disjunction.new.self _ c.in_ok-part-in-Open.ensures c.close.new.self c.in_ok-close-in-Open.ensures

@@ -4,9 +4,9 @@ use Rattle.text.proofs.reader.Reader.branch.Goals as goal
 pub guarded-requires-2 : goal.guarded-requires-2
 guarded-requires-2 c =
     prog_there c.args.self.now.tree c.clause.new.self.tree
-    (grows_trans c.args.self.now.tree c.guarded.new.self.tree c.clause.new.self.tree c.in_ok-first.ensures.grows c.in_ok-n.ensures.grows) c.args.q c.requires.2
+    (grows_trans c.args.self.now.tree c.guarded.new.self.tree c.clause.new.self.tree c.in_ok-first.ensures.grows c.in_ok-n.ensures.grows) c.args.q c.requires.q_in_bounds
 
 pub returns : goal.returns
 returns c =
     branch_built c.args.self.now c.guarded.new.self c.clause.new.self c.guarded-2.new.self c.node.new.self c.args.c c.args.p c.args.q
-    _ _ _ _ c.in_ok-first.ensures c.in_ok-n.ensures c.in_ok-second.ensures c.in_ok-i.ensures c.requires.0 c.requires.2
+    _ _ _ _ c.in_ok-first.ensures c.in_ok-n.ensures c.in_ok-second.ensures c.in_ok-i.ensures c.requires.c_in_bounds c.requires.q_in_bounds

@@ -5,4 +5,4 @@ pub returns : goal.returns
 returns c =
     repeat_built c.args.self.now c.guarded.new.self c.node.new.self c.clause.new.self c.node-2.new.self c.node-3.new.self c.args.c c.args.p
     _ _ _ _ _ c.in_ok-body.ensures c.in_ok-turns.ensures c.in_ok-n.ensures c.in_ok-end.ensures
-    c.in_ok-i.ensures c.requires.0
+    c.in_ok-i.ensures c.requires.c_in_bounds
