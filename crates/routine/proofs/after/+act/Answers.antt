@@ -19,10 +19,10 @@ pub returns-then-word-by : goal.returns-then-word-by
 returns-then-word-by t c =
     c.act-then-word-by.ensures
     ∙ (act_in_first (prog_at c.args.tree.now c.in-Seq.a) (prog_at c.args.tree.now c.in-Seq.b) c.args.word _ c.requires.low (c.requires.known c.in-Seq.a (search rules)) c.if-word-by.true
-    ∙ act_of_two c.args.tree.now c.args.i c.args.word c.in-Seq.a c.in-Seq.b c.node-at.result c.node-at.ensures.is c.in-Seq.is)
+    ∙ act_of_two c.args.tree.now c.args.i c.args.word c.in-Seq.a c.in-Seq.b c.node_at.result c.node_at.ensures.is c.in-Seq.is)
 
 pub returns-else-word-by : goal.returns-else-word-by
 returns-else-word-by t c =
     c.act-else-word-by.ensures
     ∙ (act_in_second (prog_at c.args.tree.now c.in-Seq.a) (prog_at c.args.tree.now c.in-Seq.b) c.args.word _ c.requires.low (c.requires.known c.in-Seq.a (search rules)) c.if-word-by.false
-    ∙ act_of_two c.args.tree.now c.args.i c.args.word c.in-Seq.a c.in-Seq.b c.node-at.result c.node-at.ensures.is c.in-Seq.is)
+    ∙ act_of_two c.args.tree.now c.args.i c.args.word c.in-Seq.a c.in-Seq.b c.node_at.result c.node_at.ensures.is c.in-Seq.is)

@@ -25,8 +25,8 @@ returns-then-word-by t c v known =
 
 pub returns-else-word-by : goal.returns-else-word-by
 returns-else-word-by t c v known =
-    subst (λ δ. IsRow δ v (suc c.args.word) c.moved-up.result) (prog_is c.args.tree.now c.args.i _ c.in-Seq.ensures.is)
-    (after_second (prog_at c.args.tree.now c.in-Seq.a) (prog_at c.args.tree.now c.in-Seq.b) v c.args.word _ c.requires.low (known c.in-Seq.a (search rules)).0 c.after-else-word-by.result c.moved-up.result c.if-word-by.false (c.after-else-word-by.ensures v known) c.moved-up.ensures.stop c.moved-up.ensures.next)
+    subst (λ δ. IsRow δ v (suc c.args.word) c.moved_up.result) (prog_is c.args.tree.now c.args.i _ c.in-Seq.ensures.is)
+    (after_second (prog_at c.args.tree.now c.in-Seq.a) (prog_at c.args.tree.now c.in-Seq.b) v c.args.word _ c.requires.low (known c.in-Seq.a (search rules)).0 c.after-else-word-by.result c.moved_up.result c.if-word-by.false (c.after-else-word-by.ensures v known) c.moved_up.ensures.stop c.moved_up.ensures.next)
 
 pub returns-then-word-by-2 : goal.returns-then-word-by-2
 returns-then-word-by-2 t c v known =
@@ -35,8 +35,8 @@ returns-then-word-by-2 t c v known =
 
 pub returns-else-word-by-2 : goal.returns-else-word-by-2
 returns-else-word-by-2 t c v known =
-    subst (λ δ. IsRow δ v (suc c.args.word) c.moved-up-else-word-by-2.result) (prog_is c.args.tree.now c.args.i _ c.in-Alt.ensures.is)
-    (after_right (prog_at c.args.tree.now c.in-Alt.a) (prog_at c.args.tree.now c.in-Alt.b) v c.args.word _ c.requires.low (known c.in-Alt.a (search rules)).0 c.after-else-word-by-2.result c.moved-up-else-word-by-2.result c.if-word-by-2.false (c.after-else-word-by-2.ensures v known) c.moved-up-else-word-by-2.ensures.stop c.moved-up-else-word-by-2.ensures.next)
+    subst (λ δ. IsRow δ v (suc c.args.word) c.moved_up-else-word-by-2.result) (prog_is c.args.tree.now c.args.i _ c.in-Alt.ensures.is)
+    (after_right (prog_at c.args.tree.now c.in-Alt.a) (prog_at c.args.tree.now c.in-Alt.b) v c.args.word _ c.requires.low (known c.in-Alt.a (search rules)).0 c.after-else-word-by-2.result c.moved_up-else-word-by-2.result c.if-word-by-2.false (c.after-else-word-by-2.ensures v known) c.moved_up-else-word-by-2.ensures.stop c.moved_up-else-word-by-2.ensures.next)
 
 pub returns-in-Star : goal.returns-in-Star
 returns-in-Star t c v known =

@@ -7,7 +7,7 @@ use Rattle.routine.proofs.filling.acts.Goals as goal
 
 pub loop-word-preserved : goal.loop-word-preserved
 loop-word-preserved c =
-    c.in-ok-push-2.ensures.items
+    c.in_ok-push-2.ensures.items
     ∙ acts_more (act_words (prog_at c.args.tree.now c.args.root)) (vec_items c.loop-word.acts) c.loop-word.word c.act.result c.loop-word.invariant
     (omega (arith, c.requires.count.0)) c.act.ensures
 

@@ -14,7 +14,7 @@ going-requires c =
 pub loop-valuation-preserved : goal.loop-valuation-preserved
 loop-valuation-preserved c =
     let old = vec_items c.loop-valuation.sets in
-    let e = c.in-ok-push.ensures.items in (
+    let e = c.in_ok-push.ensures.items in (
       ap length e ∙ (length_push old c.going.result ∙ ap (λ n. n + 1) c.loop-valuation.invariant.0),
       λ δ known n.
           subst (GoingOf δ) (sym e)

@@ -12,9 +12,9 @@ loop-point-preserved c =
     let δ = prog_at c.args.tree.now c.args.root in
     let old = vec_items c.loop-point.rows in
     let n : c.args.count ≡ points δ = c.requires.count.0 in
-    let e = c.in-ok-push.ensures.items in
-    let known : Starts c.args.tree.now (valuation c.args.valuation) c.as-slice.result.now =
-    subst (Starts c.args.tree.now (valuation c.args.valuation)) (sym c.as-slice.ensures.value) c.in-ok-starts.ensures.0 in (
+    let e = c.in_ok-push.ensures.items in
+    let known : Starts c.args.tree.now (valuation c.args.valuation) c.as_slice.result.now =
+    subst (Starts c.args.tree.now (valuation c.args.valuation)) (sym c.as_slice.ensures.value) c.in_ok-starts.ensures.0 in (
       subst (RowsOf δ) (sym e)
           (rows_push δ old c.row.result c.args.valuation c.loop-point.point c.loop-point.invariant.0
           (c.loop-point.invariant.1 ∙ ap (λ m. c.args.valuation * m + c.loop-point.point) n) (omega arith) (c.row.ensures (valuation c.args.valuation) known)),

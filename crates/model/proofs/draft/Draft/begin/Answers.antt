@@ -1,11 +1,12 @@
 use Rattle.std.proofs.Common.{ap, ◌∙◌, rules}
 use Rattle.locks.specs.Allowed.{marked_in}
+use Rattle.model.proofs.Beginning.{begins_with}
 use Rattle.model.proofs.Tables.{unmarked}
 use Rattle.model.proofs.draft.Draft.begin.Goals as goal
 
 pub returns : goal.returns
 returns c = (
-  search rules,
+  begins_with c.args.file.now c.in_ok-record.record.kind c.in_ok-record.record.body.now c.in_ok-record.record.rest.now c.in_ok-head.head c.in_ok-record.ensures (search rules) (search rules),
   record {
     few_acts = search rules;
     group = search rules;

@@ -6,13 +6,13 @@ use Rattle.model.proofs.draft.Draft.next.Goals as goal
 pub returns : goal.returns
 returns c = λ k s.
     let h = c.args.self.head in
-    let at = c.saturating-sub-at.result in
-    let found = c.in-ok-record.record in
-    let i = said c.in-ok-item.item in
-    let w = c.in-ok-item.ensures k s in (
+    let at = c.saturating_sub-at.result in
+    let found = c.in_ok-record.record in
+    let i = said c.in_ok-item.item in
+    let w = c.in_ok-item.ensures k s in (
       i,
-      turn_good h k at _ c.args.bytes.now found.kind found.body.now found.rest.now i c.saturating-sub-at.ensures c.in-ok-record.ensures w,
+      turn_good h k at _ c.args.bytes.now found.kind found.body.now found.rest.now i c.saturating_sub-at.ensures c.in_ok-record.ensures w,
       c.text-text.ensures,
-      c.in-ok-enter.ensures.stands k s (weigh_fit h k at found.kind found.body.now i w),
-      c.in-ok-enter.ensures.head,
+      c.in_ok-enter.ensures.stands k s (weigh_fit h k at found.kind found.body.now i w),
+      c.in_ok-enter.ensures.head,
     )

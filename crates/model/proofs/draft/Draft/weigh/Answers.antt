@@ -3,9 +3,9 @@ use Rattle.items.specs.Layout.{said}
 use Rattle.model.proofs.Inside.{bad_field_inside}
 use Rattle.model.proofs.draft.Draft.weigh.Goals as goal
 
-pub overflow-add-result-in-Some : goal.overflow-add-result-in-Some
-overflow-add-result-in-Some c =
+pub overflow_add-result-in-Some : goal.overflow_add-result-in-Some
+overflow_add-result-in-Some c =
     let inside : c.in-Some.field < length c.args.body.now =
     bad_field_inside c.args.self.now.head.form c.args.self.now.group c.args.at c.args.kind c.args.body.now
-    (said c.in-ok-item.item) c.in-ok-item.ensures c.args.self.now.head c.in-Some.field (sym c.in-Some.ensures) in
+    (said c.in_ok-item.item) c.in_ok-item.ensures c.args.self.now.head c.in-Some.field (sym c.in-Some.ensures) in
     omega (arith, inside)

@@ -7,8 +7,8 @@ use Rattle.routine.proofs.Keeping.{none_lowest}
 use Rattle.routine.proofs.Ways.{routine_one_way}
 use Rattle.routine.proofs.routine.Routine.leads.Goals as goal
 
-pub returns-then-goes-on : goal.returns-then-goes-on
-returns-then-goes-on c =
+pub returns-then-goes_on : goal.returns-then-goes_on
+returns-then-goes_on c =
     let δ = routine_prog c.args.self.now in
     let v = valuation c.args.before in
     let w = valuation c.args.after in
@@ -17,7 +17,7 @@ returns-then-goes-on c =
     let h : k < points δ = omega arith in
     let x : next δ v c.args.point k ≡ true = sym (c.row-next.ensures.1 k l) ∙ (sym c.contains.ensures ∙ c.if-contains.true) in
     let y : eqb (word δ k) c.args.act ≡ true = eq-eqb (word δ k) c.args.act (sym c.word.ensures ∙ c.if-word-act.true) in
-    let z : goes_on δ w k ≡ true = sym c.goes-on.ensures ∙ c.if-goes-on.true in
+    let z : goes_on δ w k ≡ true = sym c.goes_on.ensures ∙ c.if-goes_on.true in
     record {
       is = sym (lowest_is (points δ) (leads_to δ v w c.args.point c.args.act) k h
           (and_from (next_by δ v c.args.point c.args.act k) (goes_on δ w k) (and_from (next δ v c.args.point k) (eqb (word δ k) c.args.act) x y) z)

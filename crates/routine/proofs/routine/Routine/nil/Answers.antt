@@ -1,5 +1,5 @@
 use Rattle.routine.proofs.Ways.{nil_one_way}
 use Rattle.routine.proofs.routine.Routine.nil.Goals as goal
 
-pub invariant-of-result : goal.invariant-of-result
-invariant-of-result c = (∣ nil_one_way ∣₁, tt)
+pub invariant_of-result : goal.invariant_of-result
+invariant_of-result c = record { one = ∣ nil_one_way ∣₁ }
