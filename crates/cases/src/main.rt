@@ -1,4 +1,6 @@
 // Tries the reader on job files that differ from a good one in one place, and prints the line of each.
+#![tactic(auto)]
+
 use jobfile::jobfile::JobFile;
 use std::alloc::{AllocError, Global};
 

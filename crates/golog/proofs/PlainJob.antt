@@ -6,7 +6,7 @@ use Rattle.locks.specs.Meaning.{Meaning, Lawful, Live, reactions, any_below}
 use Rattle.golog.specs.Search.{lowest}
 use Rattle.golog.specs.Programs.{Prog, Step, Trans}
 use Rattle.golog.specs.Points.{no_act, points, rem, goes_on}
-use Rattle.golog.specs.Positions.{positions, position, point_of, state_of, first_position, facts_at, rem_at, may_stop, next_by, lead}
+use Rattle.golog.specs.Positions.{positions, point_of, state_of, first_position, facts_at, rem_at, may_stop, next_by, lead}
 use Rattle.golog.specs.Positions.Lead.{to}
 use Rattle.golog.specs.Standings.{History, ReachesFrom, Reaches}
 use Rattle.golog.specs.Sheets.{no_number, number_bound, number_at, surely_below, true_row, sound_row, has_row, Accepts}

@@ -1,5 +1,5 @@
 -- From a routine's text and a lock to what comes of them, and texts to try reading on.
-use Rattle.std.specs.Prelude.{◌≡◌, ℕ, zero, suc, Bool, true, false, ◌&&◌, eqb, List, [], ◌∷◌, ◌++◌, map, codes}
+use Rattle.std.specs.Prelude.{◌≡◌, ℕ, zero, suc, List, [], ◌∷◌, ◌++◌, map, codes}
 use Rattle.locks.specs.Meaning.{Meaning}
 use Rattle.golog.specs.Faults.{Fault}
 use Rattle.golog.specs.Programs.{Prog, nil, if_then_else}
@@ -11,9 +11,7 @@ use Rattle.golog.specs.Positions.{positions}
 use Rattle.golog.specs.Sheets.{Made, Passed, size_fault, no_sheet_fault, false_row_fault, numbers, acts_for, make, pass}
 use Rattle.golog.specs.Sheets.Passed.{accepted, too_large, false_row}
 use Rattle.golog.specs.Sheets.Made.{made, no_sheet, oversize}
-use Rattle.golog.specs.Jobs.{Plain, Phase, Call, Answer, job_fault, plain_begin, plain_answers}
-use Rattle.golog.specs.Jobs.Phase.{ready, finished}
-use Rattle.golog.specs.Jobs.Call.{perform, tell, ask}
+use Rattle.golog.specs.Jobs.{Plain, Call, Answer, job_fault, plain_begin, plain_answers}
 use Rattle.golog.specs.Grammar.{Names}
 use Rattle.golog.specs.Reading.{read, Reading, text_fault}
 use Rattle.golog.specs.Reading.TextFault.{misplaced, unknown, over_limit}

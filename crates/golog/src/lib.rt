@@ -1,4 +1,6 @@
 // The meaning of routines, sheets and jobs, and the theorems that say that it fits together.
+#![tactic(auto)]
+
 ghost use Rattle.golog.specs.Points.{NextIsTrans, WaysIsOneWay};
 ghost use Rattle.golog.specs.Positions.{LeadIsTrans};
 ghost use Rattle.golog.specs.Grammar.{OneTree};

@@ -1,4 +1,6 @@
 // Taking in the bytes of a job file, from a path or from standard input, and no more of them than are needed to refuse a long one.
+#![tactic(auto)]
+
 ghost use Rattle.std.specs.Prelude.{◌+◌, ◌<◌, ◌≤◌, IfOk, vec_len};
 
 use std::alloc::Global;

@@ -1,5 +1,5 @@
 -- Tests of fields, one after another, and of numbers against a power of two.
-use Rattle.std.proofs.Common.{◌≡◌, ℕ, ◌+◌, ◌^◌, ◌<◌, ◌≤◌, Bool, true, false, List, [], ◌∷◌, length, get_or, drop, Some, None, sym, refl, ap, ◌∙◌, arith, pow_mono}
+use Rattle.std.proofs.Common.{◌≡◌, ℕ, ◌+◌, ◌^◌, ◌<◌, ◌≤◌, Bool, true, false, List, ◌∷◌, length, get_or, drop, Some, None, sym, refl, ap, ◌∙◌, arith, pow_mono}
 use borrow.Author.Tests.{clash}
 use Rattle.std.proofs.lemmas.List.{drop_more, drop_all}
 use Rattle.items.specs.Ranges.{first_bad}

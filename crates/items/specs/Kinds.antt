@@ -1,5 +1,5 @@
 -- The kinds of records: their numbers, the order of their groups, the form of lock that has them, their lengths.
-use Rattle.std.specs.Prelude.{ℕ, Bool, true, false, cond, Some, None, Option, ◌==◌, nat_le}
+use Rattle.std.specs.Prelude.{ℕ, Bool, true, cond, Some, None, Option, ◌==◌, nat_le}
 use Rattle.items.specs.declared.kind.Kind.{Kind}
 use Rattle.items.specs.declared.kind.Kind.TheVariants.{Head, Fact, Act, Rule, Change, State, Move, Mark, Allowance, Routine}
 

@@ -1,5 +1,5 @@
 -- The program so far, one record on.
-use Rattle.std.proofs.Common.{◌≡◌, ℕ, ◌⊎◌, List, length, Some, None, Ok, Err, Option, Result, sym, refl, ap, ◌∙◌, subst, inl, inr}
+use Rattle.std.proofs.Common.{◌≡◌, ℕ, List, length, Some, None, Ok, Err, Option, Result, sym, refl, ap, ◌∙◌, subst, inl, inr}
 use mathlib.Core.Option as logic
 use mathlib.Core.Option.{none, some}
 use Rattle.items.specs.declared.item.Header.{Header}
@@ -12,10 +12,8 @@ use Rattle.model.proofs.Inside.{nothing_is_some}
 use Rattle.golog.specs.Reading as golog
 use Rattle.golog.specs.Reading.{Reading, read}
 use Rattle.golog.specs.Reading.Reading.{tree, refused}
-use Rattle.golog.specs.Grammar.{Names}
 use Rattle.text.specs.declared.parsed.Parsed.{Parsed}
 use Rattle.text.specs.declared.fault.TextFault.{TextFault}
-use Rattle.text.specs.declared.fault.TextFault.TheVariants.{Memory}
 use Rattle.text.specs.Faults.{said_fault}
 use Rattle.text.specs.Parse.{ReadAs, RefusedAs, parsed_prog}
 use Rattle.text.specs.Rest.{both_names}

@@ -1,2 +1,4 @@
 // Job files: reading one whole, and holding what it says.
+#![tactic(auto)]
+
 pub mod jobfile;

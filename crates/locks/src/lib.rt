@@ -1,4 +1,6 @@
 // Locks: the interface that everything above is generic over, and the layers that make a lock of a lock.
+#![tactic(auto)]
+
 pub mod allowance;
 pub mod lock;
 pub mod marks;

@@ -1,4 +1,6 @@
 // The two lowest locks, and the one of them that stands at the bottom of a pile.
+#![tactic(auto)]
+
 mod bits;
 pub mod facts;
 pub mod listed;

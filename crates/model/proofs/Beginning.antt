@@ -1,5 +1,5 @@
 -- What begins a file: the head of its first record.
-use Rattle.std.specs.Prelude.{◌≡◌, ℕ, List, [], ◌∷◌, Ok, None, Result, Option}
+use Rattle.std.specs.Prelude.{◌≡◌, ℕ, List, [], ◌∷◌, Ok, None}
 use Rattle.std.proofs.Common.{ap, ◌∙◌}
 use Rattle.records.specs.Split.{front}
 use Rattle.records.specs.Split.Front.{whole}

@@ -1,5 +1,5 @@
 -- What is tried at the end of a file: numbers below a bound, and the lock as its records say it.
-use Rattle.std.proofs.Common.{◌≡◌, ℕ, zero, suc, ◌^◌, ◌<◌, ◌≤◌, Bool, true, false, cond, not, ◌&&◌, eqb, List, [], ◌∷◌, get_or, Some, None, Option, unwrap_or, sym, refl, ap, ◌∙◌, subst, ap₂, inl, inr, arith, ltb-true, eq-eqb, ne_eqb}
+use Rattle.std.proofs.Common.{◌≡◌, ℕ, zero, suc, ◌^◌, ◌<◌, Bool, true, false, List, [], ◌∷◌, get_or, Some, None, Option, unwrap_or, sym, refl, ap, ◌∙◌, subst, ap₂, inl, inr, arith, ltb-true, eq-eqb, ne_eqb}
 use borrow.Author.Tests.{clash}
 use Rattle.std.proofs.lemmas.Bool.{cases_eq, cases_Bool, cond-true, cond-false, and_from, and_left, and_right, and_parts, not_from_true}
 use Rattle.items.specs.declared.item.Header.{Header}
@@ -8,7 +8,7 @@ use Rattle.locks.specs.declared.marks.Marks.{Marks}
 use Rattle.locks.specs.Allowed.{allowance, marked, layer_fault}
 use Rattle.locks.specs.Layer.{layered}
 use Rattle.locks.specs.Meaning.{Meaning, Live}
-use Rattle.locks.specs.Stuck.{stuck, LowestStuck, FirstStuck}
+use Rattle.locks.specs.Stuck.{stuck, FirstStuck}
 use Rattle.lowest.specs.declared.lowest.Lowest.{Lowest}
 use Rattle.lowest.specs.declared.lowest.Lowest.TheVariants.{Empty, Facts, Listed}
 use Rattle.lowest.specs.Facts.{fact_meaning}

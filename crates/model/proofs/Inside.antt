@@ -1,7 +1,6 @@
 -- A field out of range stands inside the body of its record.
-use Rattle.std.proofs.Common.{◌≡◌, ℕ, ◌<◌, Bool, true, false, cond, ◌&&◌, eqb, ltb, leb, List, [], ◌∷◌, length, Some, None, Ok, Err, Option, Result, sym, refl, ap, ◌∙◌, subst, arith, ltb-true, eqb-true}
+use Rattle.std.proofs.Common.{◌≡◌, ℕ, ◌<◌, Bool, true, false, cond, ◌&&◌, ltb, leb, List, [], ◌∷◌, length, Some, None, Ok, Err, Option, refl, ap, ◌∙◌, arith, ltb-true, eqb-true}
 use Rattle.std.proofs.lemmas.Bool.{and_parts}
-use Rattle.records.specs.declared.RecordFault.{RecordFault}
 use Rattle.items.specs.declared.kind.Kind.{Kind}
 use Rattle.items.specs.declared.kind.Kind.TheVariants.{Head, Fact, Act, Rule, Change, State, Move, Mark, Allowance, Routine}
 use Rattle.items.specs.declared.item.Header.{Header}

@@ -1,5 +1,5 @@
 -- The end of a file: records that never came, then acts that have no reaction, then the layer.
-use Rattle.std.specs.Prelude.{◌≡◌, ℕ, zero, suc, Bool, true, false, cond, not, ◌&&◌, ◌||◌, List, [], length, is_some, Some, None, Option, ◌==◌, nat_lt}
+use Rattle.std.specs.Prelude.{◌≡◌, ℕ, zero, suc, Bool, true, false, cond, not, ◌&&◌, ◌||◌, length, is_some, Some, None, Option, ◌==◌, nat_lt}
 use Rattle.words.specs.Listed.{name_list}
 use Rattle.items.specs.declared.item.Header.{Header}
 use Rattle.locks.specs.declared.allowance.LayerFault.{LayerFault}

@@ -1,8 +1,7 @@
 -- What the records of a job file say, sorted by kind.
-use Rattle.std.specs.Prelude.{ℕ, Bool, true, false, cond, ◌&&◌, ◌||◌, List, [], ◌∷◌, ◌++◌, Some, None, Option, ◌==◌, slice_index}
+use Rattle.std.specs.Prelude.{ℕ, Bool, false, cond, ◌&&◌, ◌||◌, List, [], ◌∷◌, ◌++◌, Some, None, Option, ◌==◌, slice_index}
 use Rattle.items.specs.declared.item.Header.{Header}
-use Rattle.items.specs.Kinds.{group_of}
-use Rattle.items.specs.Layout.{Entry, kind_of_entry}
+use Rattle.items.specs.Layout.{Entry}
 use Rattle.items.specs.Layout.Entry.{head, fact, act, rule, change, state, move, mark, allowance, routine}
 use Rattle.locks.specs.Meaning.{Meaning}
 use Rattle.locks.specs.Layer.{layered}

@@ -1,5 +1,5 @@
 -- When the tables of a draft hold what was said.
-use Rattle.std.specs.Prelude.{◌≡◌, ℕ, ◌≤◌, Bool, true, false, List, [], length, Some, None, Option, nat_le}
+use Rattle.std.specs.Prelude.{◌≡◌, ℕ, ◌≤◌, true, false, [], length, None, nat_le}
 use Rattle.std.specs.Option.{option_map}
 use Rattle.words.specs.Listed.{name_list}
 use Rattle.items.specs.declared.item.Header.{Header}

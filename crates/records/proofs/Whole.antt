@@ -1,5 +1,5 @@
 -- What stands at the front of bytes that are long enough.
-use Rattle.std.proofs.Common.{◌≡◌, ℕ, ◌-◌, ◌≤◌, List, [], ◌∷◌, length, get_or, take, drop, sym, ap, ◌∙◌, subst, arith, length-drop, le-leb}
+use Rattle.std.proofs.Common.{◌≡◌, ℕ, ◌-◌, ◌≤◌, List, [], ◌∷◌, length, get_or, take, drop, ap, ◌∙◌, subst, arith, length-drop, le-leb}
 use Rattle.std.proofs.lemmas.List.{take_rest}
 use Rattle.records.specs.Split.{front, long_enough, two_bytes}
 use Rattle.records.specs.Split.Front.{whole}

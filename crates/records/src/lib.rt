@@ -1,4 +1,6 @@
 // Records: what a job file is made of. This layer knows of no kind.
+#![tactic(auto)]
+
 ghost use Rattle.std.specs.Prelude.{◌≡◌, ℕ, ◌+◌, ◌*◌, ◌<◌, ◌≤◌, length, MatchResult};
 ghost use Rattle.records.specs.Split.{front, two_bytes};
 ghost use Rattle.records.specs.Split.Front.{cut, whole};

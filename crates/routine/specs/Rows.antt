@@ -1,7 +1,7 @@
 -- What holds at one point under one valuation, and at the beginning of each entry of a tree.
 use Rattle.std.specs.Prelude.{◌≡◌, ℕ, ◌<◌, min, false, List, length, get_or, slice_index_or}
 use Rattle.golog.specs.Programs.{Valuation, Prog, Final}
-use Rattle.golog.specs.Points.{words, rem, next, valuation}
+use Rattle.golog.specs.Points.{words, rem, next}
 use Rattle.tree.specs.declared.tree.Tree.{Tree}
 use Rattle.tree.specs.Held.{prog_at}
 use Rattle.routine.specs.Sets.{room, Holds}

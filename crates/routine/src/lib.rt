@@ -1,4 +1,6 @@
 // Routines: a program's points, which may stop, which come next, and that it has one way.
+#![tactic(auto)]
+
 mod after;
 mod condition;
 mod entry;

@@ -1,4 +1,6 @@
 // The sheet maker's program: reads a job file and prints one line, what it holds or why it is refused.
+#![tactic(auto)]
+
 use intake::{LONGEST, take_in};
 use jobfile::jobfile::JobFile;
 use std::alloc::AllocError;

@@ -1,4 +1,6 @@
 // For proof-reading a job file: prints by names what it holds, or why it is refused in plain words.
+#![tactic(auto)]
+
 use faults::fault::FileFault;
 use intake::{LONGEST, take_in};
 use jobfile::jobfile::JobFile;

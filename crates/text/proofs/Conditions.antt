@@ -1,5 +1,5 @@
 -- Reading conditions.
-use Rattle.std.proofs.Common.{◌≡◌, ℕ, suc, ◌+◌, ◌<◌, ◌≤◌, Bool, true, false, List, [], ◌∷◌, length, sym, refl, ap, ◌∙◌, subst, ap₂, arith}
+use Rattle.std.proofs.Common.{◌≡◌, ℕ, suc, ◌+◌, ◌<◌, ◌≤◌, true, List, [], ◌∷◌, length, sym, refl, ap, ◌∙◌, subst, arith}
 use mathlib.Core.Option.{Option, none, some}
 use Rattle.golog.specs.Programs.{Cond}
 use Rattle.golog.specs.Programs.Cond.{always, never, fact, negated, both, any}
@@ -8,7 +8,7 @@ use Rattle.golog.specs.Words.Word.{name, open_round, close_round, begins, behind
 use Rattle.golog.specs.Words.CondBehind.{and_word, or_word, close_square, then_word, do_word}
 use Rattle.golog.specs.Grammar.{Names, number_of}
 use Rattle.golog.specs.Grammar.CondSort.{disjunction, conjunction, literal}
-use Rattle.golog.specs.Reading.{Sofar, CondSofar, Frame, Base, Nest, State, Reading, nothing_cond, operand, fact_word, advance, depth, most_depth}
+use Rattle.golog.specs.Reading.{Sofar, CondSofar, Frame, Base, Nest, nothing_cond, operand, fact_word, advance, depth, most_depth}
 use Rattle.golog.specs.Reading.Nest.{bracket, negation}
 use Rattle.golog.specs.Reading.Base.{of_test, of_if, of_while}
 use Rattle.golog.specs.Reading.State.{want_cond, have_cond}
@@ -16,20 +16,16 @@ use Rattle.golog.specs.Reading.Advance.{goes, misfit, unfamiliar}
 use Rattle.tree.specs.declared.node.Clause.{Clause}
 use Rattle.tree.specs.Trees.{cond_node}
 use Rattle.tree.specs.Held.{clauses, cond_at}
-use Rattle.text.specs.declared.word.Token.{Token}
-use Rattle.text.specs.declared.word.Word.{Word}
-use Rattle.text.specs.declared.word.Word.TheVariants.{Name, Open, OpenSquare, If, While, Nil, Not, True, False, Behind, Strange}
+use Rattle.text.specs.declared.word.Word.TheVariants.{Open, Not, True, False}
 use Rattle.text.specs.declared.word.Mark.{Mark}
 use Rattle.text.specs.declared.word.Mark.TheVariants as mark
 use Rattle.text.specs.declared.fault.TextFault.{TextFault}
 use Rattle.text.specs.declared.reader.Reader.{Reader}
 use Rattle.text.specs.Said.{said, mark_word}
-use Rattle.text.specs.Faults.{Tells}
 use Rattle.text.specs.Rest.{rest, going, mark_of, next_mark}
 use Rattle.text.specs.Steps.{Taken, OverDone, OverDeep, Unfit, Unclosed}
-use Rattle.text.specs.Built.{Grows, Unmoved, BuiltCond}
-use Rattle.text.specs.Conds as conds
-use Rattle.text.specs.Conds.{no_negation, cond_before, cond_after, CondStops, CondRead, CondJoined, CondRefused, CondTaken}
+use Rattle.text.specs.Built.{Grows, BuiltCond}
+use Rattle.text.specs.Conds.{no_negation, CondStops, CondRead, CondJoined, CondRefused, CondTaken}
 use Rattle.text.specs.Progs.{base_closer}
 use Rattle.text.proofs.Stepping.{alike, refusal}
 use Rattle.text.proofs.Growing.{grows_same, grows_trans, cond_stays, unmoved_going}

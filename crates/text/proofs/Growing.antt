@@ -4,7 +4,7 @@ use mathlib.Core.Option as logic
 use mathlib.Core.Option.{none, some}
 use Rattle.std.proofs.lemmas.List.{get_or_push, length_push}
 use Rattle.words.specs.Names.{same_word, one_on, position}
-use Rattle.golog.specs.Programs.{Cond, Prog, if_then_else, while_do}
+use Rattle.golog.specs.Programs.{if_then_else, while_do}
 use Rattle.golog.specs.Programs.Cond.{negated}
 use Rattle.golog.specs.Programs.Prog.{test, seq, alt, star}
 use Rattle.golog.specs.Grammar.{Names, one_up, number_of}

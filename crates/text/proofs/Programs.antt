@@ -1,5 +1,5 @@
 -- Reading programs.
-use Rattle.std.proofs.Common.{◌≡◌, ℕ, suc, ◌+◌, ◌<◌, ◌≤◌, List, [], ◌∷◌, length, sym, refl, ap, ◌∙◌, subst, ap₂, arith}
+use Rattle.std.proofs.Common.{◌≡◌, ℕ, ◌+◌, ◌<◌, ◌≤◌, List, [], ◌∷◌, length, sym, refl, ap, ◌∙◌, subst, ap₂, arith}
 use mathlib.Core.Option.{Option, none, some}
 use Rattle.golog.specs.Programs as golog
 use Rattle.golog.specs.Programs.{Cond, Prog, if_then_else, while_do}
@@ -12,7 +12,7 @@ use Rattle.golog.specs.Words.Behind.{asterisk, semicolon, bar, else_word, fi_wor
 use Rattle.golog.specs.Grammar.{Names, number_of}
 use Rattle.golog.specs.Grammar.CondSort.{disjunction}
 use Rattle.golog.specs.Grammar.Sort.{choice, sequence, item, atom}
-use Rattle.golog.specs.Reading.{Sofar, Frame, Base, State, nothing, nothing_cond, whole, act_word, advance, depth, finish, most_depth}
+use Rattle.golog.specs.Reading.{Sofar, Frame, Base, nothing, nothing_cond, whole, act_word, advance, depth, finish, most_depth}
 use Rattle.golog.specs.Reading.Reading.{tree}
 use Rattle.golog.specs.Reading.Frame.{in_round, in_then, in_else, in_do}
 use Rattle.golog.specs.Reading.Base.{of_test, of_if, of_while}
@@ -24,12 +24,11 @@ use Rattle.text.specs.declared.word.Mark.TheVariants as mark
 use Rattle.text.specs.declared.fault.TextFault.{TextFault}
 use Rattle.text.specs.declared.reader.Reader.{Reader}
 use Rattle.text.specs.Said.{mark_word}
-use Rattle.text.specs.Faults.{Tells}
 use Rattle.text.specs.Rest.{rest, going, mark_of, next_mark}
 use Rattle.text.specs.Steps.{Taken, TakenAct, OverDone, OverDoneAct, OverDeep, Unfit, Unclosed}
 use Rattle.text.specs.Built.{Grows, BuiltCond, Built}
 use Rattle.text.specs.Conds.{CondRead, CondRefused}
-use Rattle.text.specs.Progs.{prog_before, ProgStops, ProgRead, ProgJoined, ProgRefused, base_closer, frame_closer, GuardRead, GuardRefused, InsideRead, InsideRefused}
+use Rattle.text.specs.Progs.{ProgStops, ProgRead, ProgJoined, ProgRefused, frame_closer, GuardRead, GuardRefused, InsideRead, InsideRefused}
 use Rattle.text.proofs.Stepping.{alike, refusal}
 use Rattle.text.proofs.Growing.{grows_same, grows_trans, cond_there, prog_there, cond_stays, prog_stays, unmoved_going}
 use Rattle.text.proofs.Conditions.{cond_unfit}

@@ -15,7 +15,7 @@ use Rattle.text.specs.Said.{said, mark_word}
 use Rattle.text.specs.declared.fault.TextFault.{TextFault}
 use Rattle.text.specs.declared.fault.TextFault.TheVariants.{Memory}
 use Rattle.text.specs.Faults.{Tells}
-use Rattle.text.specs.Rest.{said_token, rest_from, rest, going, mark_of, next_mark}
+use Rattle.text.specs.Rest.{rest_from, rest, going, mark_of, next_mark}
 use Rattle.text.specs.Built.{Nameless}
 use Rattle.text.specs.Steps.{Passed, Taken, Takes, Unfit}
 

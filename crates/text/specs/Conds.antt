@@ -1,6 +1,6 @@
 -- What the readers of conditions do.
 use Rattle.std.specs.Prelude.{◌≡◌, ℕ, suc, ◌+◌, ◌<◌, ◌≤◌, Bool, true, false, List, [], ◌∷◌, length, ◌≢◌}
-use Rattle.std.proofs.Math.Option.{Option, none, some}
+use Rattle.std.proofs.Math.Option.{none, some}
 use Rattle.golog.specs.Programs.{Cond}
 use Rattle.golog.specs.Words.{Token, Word}
 use Rattle.golog.specs.Grammar.{Names, CondSort}
@@ -10,7 +10,6 @@ use Rattle.golog.specs.Reading.Advance.{goes}
 use Rattle.golog.specs.Reading.Nest.{bracket, negation}
 use Rattle.golog.specs.Reading.State.{want_cond, have_cond}
 use Rattle.tree.specs.Held.{clauses, cond_at}
-use Rattle.text.specs.declared.word.Mark.{Mark}
 use Rattle.text.specs.declared.word.Mark.TheVariants.{And, Or}
 use Rattle.text.specs.declared.fault.TextFault.{TextFault}
 use Rattle.text.specs.declared.reader.Reader.{Reader}

@@ -6,7 +6,6 @@ use Rattle.golog.specs.Reading as golog
 use Rattle.golog.specs.Reading.{Reading, text_fault}
 use Rattle.golog.specs.Reading.TextFault.{misplaced, unknown, over_limit}
 use Rattle.golog.specs.Reading.Reading.{refused}
-use Rattle.text.specs.declared.fault.WordFault.{WordFault}
 use Rattle.text.specs.declared.fault.WordFault.TheVariants.{Strange}
 use Rattle.text.specs.declared.fault.TextFault.{TextFault}
 use Rattle.text.specs.declared.fault.TextFault.TheVariants.{Word, Misplaced, Unknown, OverLimit, Memory}

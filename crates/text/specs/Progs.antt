@@ -1,6 +1,6 @@
 -- What the readers of programs do.
 use Rattle.std.specs.Prelude.{◌≡◌, ℕ, ◌+◌, ◌<◌, ◌≤◌, List, [], ◌∷◌, length, ◌≢◌}
-use Rattle.std.proofs.Math.Option.{Option, none, some}
+use Rattle.std.proofs.Math.Option.{none, some}
 use Rattle.golog.specs.Programs.{Cond, Prog}
 use Rattle.golog.specs.Words.{Token, Word}
 use Rattle.golog.specs.Grammar.{Names, Sort}

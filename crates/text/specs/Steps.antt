@@ -3,7 +3,6 @@ use Rattle.std.specs.Prelude.{◌≡◌, ℕ, ◌+◌, ◌<◌, ◌≤◌, Bool,
 use Rattle.std.proofs.Math.Option.{some}
 use Rattle.golog.specs.Words as golog
 use Rattle.golog.specs.Grammar.{Names}
-use Rattle.golog.specs.Reading as reading
 use Rattle.golog.specs.Reading.{State, advance, depth, finish, most_depth}
 use Rattle.golog.specs.Reading.Advance.{goes, goes_by_act, misfit}
 use Rattle.golog.specs.Reading.Reading.{refused}

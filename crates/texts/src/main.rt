@@ -1,4 +1,6 @@
 // Tries the reader on routines for the small lock, and prints the line of each. The file that is named holds the lock, up to its routine.
+#![tactic(auto)]
+
 use intake::take_in;
 use jobfile::jobfile::JobFile;
 use std::alloc::{AllocError, Global};

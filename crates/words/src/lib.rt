@@ -1,4 +1,6 @@
 // Words and names: what names in a job file and words of a routine have in common.
+#![tactic(auto)]
+
 ghost use Rattle.std.specs.Prelude.{◌≡◌, ℕ, ◌+◌, ◌*◌, ◌<◌, ◌≤◌, Bool, true, false, ◌&&◌, length};
 ghost use Rattle.words.specs.Names.{same_word, is_reserved, is_letter, is_name_byte, all_name_bytes, is_name};
 

@@ -1,4 +1,4 @@
-use Rattle.std.proofs.Common.{◌≡◌, get_or, None, ap, ◌∙◌, rules}
+use Rattle.std.proofs.Common.{ap, ◌∙◌, rules}
 use Rattle.lowest.specs.Facts.{rule_in, change_in}
 use Rattle.lowest.specs.Listed.{move_in}
 use Rattle.model.proofs.Tables.{nothing_at, no_change_at, no_move_at}

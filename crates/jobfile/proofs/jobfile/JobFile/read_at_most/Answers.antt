@@ -1,4 +1,4 @@
-use Rattle.std.proofs.Common.{◌≡◌, ◌≤◌, length, sym, ap, subst, arith, le-leb}
+use Rattle.std.proofs.Common.{◌≤◌, length, sym, ap, subst, arith, le-leb}
 use Rattle.std.proofs.lemmas.Result.{MatchResult-weaker}
 use Rattle.jobfile.specs.Refused.{Refused}
 use Rattle.jobfile.specs.Verdict.{limited}

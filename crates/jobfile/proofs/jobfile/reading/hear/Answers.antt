@@ -1,4 +1,4 @@
-use Rattle.std.proofs.Common.{ap, subst, rules}
+use Rattle.std.proofs.Common.{ap, subst}
 use Rattle.std.specs.Option.{option_map}
 use Rattle.text.specs.Parse.{ReadAs}
 use Rattle.jobfile.proofs.Hearing.{heard_text}

@@ -1,4 +1,4 @@
-use Rattle.std.proofs.Common.{◌≡◌, ◌+◌, ◌*◌, ◌<◌, Bool, true, length, set, sym, ap, ◌∙◌, subst, arith, rules}
+use Rattle.std.proofs.Common.{◌≡◌, ◌+◌, ◌*◌, ◌<◌, true, length, set, sym, ap, ◌∙◌, subst, rules}
 use Rattle.items.specs.Layout.{said}
 use Rattle.items.specs.Layout.Entry.{mark}
 use Rattle.locks.specs.Allowed.{marks_list, marked_in}

@@ -1,4 +1,3 @@
-use Rattle.std.proofs.Common.{rules}
 use Rattle.items.specs.Layout.{said}
 use Rattle.model.proofs.Fitting.{weigh_fit, turn_good}
 use Rattle.model.proofs.draft.Draft.next.Goals as goal

@@ -1,4 +1,4 @@
-use Rattle.std.proofs.Common.{length, ◌∙◌, arith, rules}
+use Rattle.std.proofs.Common.{◌∙◌, rules}
 use Rattle.text.proofs.Cutting.{comment_ends, comment_more, comment_all}
 use Rattle.text.proofs.lexer.cutting.comment_end.Goals as goal
 

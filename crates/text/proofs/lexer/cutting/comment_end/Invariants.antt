@@ -1,6 +1,6 @@
 use Rattle.std.proofs.Common.{◌≡◌, drop}
 use Rattle.golog.specs.Words.{cut}
-use Rattle.golog.specs.Words.Cutting.{gap, comment}
+use Rattle.golog.specs.Words.Cutting.{comment}
 use Rattle.text.proofs.lexer.cutting.comment_end.Given as goal
 
 abbrev pub invariant-loop-i : goal.invariant-loop-i

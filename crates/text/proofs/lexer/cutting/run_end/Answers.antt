@@ -1,4 +1,4 @@
-use Rattle.std.proofs.Common.{◌≡◌, length, get_or, sym, ap, ◌∙◌, arith, rules}
+use Rattle.std.proofs.Common.{◌≡◌, get_or, sym, ◌∙◌, rules}
 use Rattle.golog.specs.Words.{byte_kind}
 use Rattle.golog.specs.Words.Byte.{part}
 use Rattle.text.proofs.Cutting.{kind_part, gap_part, run_more, run_ends, run_all}

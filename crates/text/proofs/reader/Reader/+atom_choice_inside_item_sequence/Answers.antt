@@ -1,7 +1,7 @@
-use Rattle.std.proofs.Common.{◌≡◌, sym, refl, ap, ◌∙◌, subst}
+use Rattle.std.proofs.Common.{sym, subst}
 use Rattle.std.proofs.lemmas.Result.{err_from_is_err_and}
 use mathlib.Core.Option.{none}
-use Rattle.golog.specs.Grammar.Sort.{choice, sequence, item, atom}
+use Rattle.golog.specs.Grammar.Sort.{choice, sequence, item}
 use Rattle.text.specs.declared.word.Mark.TheVariants as mark
 use Rattle.text.specs.Said.{said}
 use Rattle.text.specs.Rest.{names_of}

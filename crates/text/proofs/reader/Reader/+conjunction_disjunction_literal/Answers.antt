@@ -1,8 +1,8 @@
-use Rattle.std.proofs.Common.{◌≡◌, sym, refl, ap, ◌∙◌, subst, rules}
+use Rattle.std.proofs.Common.{sym, ap, ◌∙◌, subst}
 use Rattle.std.proofs.lemmas.Result.{err_from_is_err_and, MatchResult-weaker}
 use Rattle.golog.specs.Programs.Cond.{always, never, fact}
 use mathlib.Core.Option.{none}
-use Rattle.golog.specs.Grammar.CondSort.{disjunction, conjunction, literal}
+use Rattle.golog.specs.Grammar.CondSort.{disjunction, conjunction}
 use Rattle.golog.specs.Reading.{advance}
 use Rattle.golog.specs.Reading.State.{want_cond}
 use Rattle.text.specs.declared.word.Mark.TheVariants.{And, Or}

@@ -1,4 +1,4 @@
-use Rattle.std.proofs.Common.{suc, arith, rules}
+use Rattle.std.proofs.Common.{suc, arith}
 use Rattle.std.proofs.lemmas.Result.{err_from_is_err_and}
 use Rattle.text.proofs.Stepping.{too_deep, stopped}
 use Rattle.text.proofs.reader.Reader.open.Goals as goal

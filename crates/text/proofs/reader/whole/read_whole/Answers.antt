@@ -1,4 +1,4 @@
-use Rattle.std.proofs.Common.{◌≡◌, refl, ◌∙◌}
+use Rattle.std.proofs.Common.{refl, ◌∙◌}
 use Rattle.std.proofs.lemmas.Result.{err_from_is_err_and}
 use Rattle.text.specs.Rest.{both_names}
 use Rattle.text.proofs.Texts.{first_rest, reading_begins, whole_refused, whole_read, whole_unplaced}

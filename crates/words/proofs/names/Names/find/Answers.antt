@@ -1,4 +1,4 @@
-use Rattle.std.proofs.Common.{◌≡◌, ◌<◌, ◌≤◌, map, length, get_or, vec_items, sym, ap, ◌∙◌, subst}
+use Rattle.std.proofs.Common.{◌<◌, ◌≤◌, map, length, get_or, vec_items, sym, ap, ◌∙◌, subst}
 use Rattle.words.specs.Names.{same_word, position}
 use Rattle.words.proofs.Listing.{place_start, place_found, place_further, place_none}
 use Rattle.words.proofs.names.Names.find.Goals as goal

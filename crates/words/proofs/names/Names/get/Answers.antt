@@ -1,4 +1,4 @@
-use Rattle.std.proofs.Common.{◌<◌, map, length, vec_items, ◌∙◌, arith, rules}
+use Rattle.std.proofs.Common.{◌<◌, length, vec_items, ◌∙◌, arith}
 use Rattle.std.proofs.lemmas.List.{length-map}
 use Rattle.words.proofs.Listing.{name_at}
 use Rattle.words.proofs.names.Names.get.Goals as goal

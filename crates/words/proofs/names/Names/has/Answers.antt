@@ -1,4 +1,4 @@
-use Rattle.std.proofs.Common.{◌≡◌, ◌<◌, ◌≤◌, length, get_or, vec_items, sym, ap, ◌∙◌, subst, arith, rules}
+use Rattle.std.proofs.Common.{◌<◌, ◌≤◌, length, get_or, vec_items, sym, ap, ◌∙◌, subst}
 use Rattle.words.specs.Names.{same_word}
 use Rattle.words.proofs.Listing.{found, other, not_found}
 use Rattle.words.proofs.names.Names.has.Goals as goal
