@@ -1,4 +1,4 @@
-use super::{Failure, program, routine};
+use super::{Failure, next_points, program};
 use jobfile::jobfile::JobFile;
 use locks::lock::Lock;
 use words::names::Names;
@@ -125,5 +125,5 @@ pub(crate) fn print(rt: &HostRuntime, job: &JobFile) -> Result<(), Failure> {
     rt.stdout().write_all(job.text())?;
     println!(rt; "")?;
     program::print(rt, job)?;
-    routine::print(rt, job)
+    next_points::print(rt, job)
 }

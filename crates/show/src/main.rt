@@ -9,8 +9,8 @@ use std::{env, io};
 
 mod ground;
 mod listing;
+mod next_points;
 mod program;
-mod routine;
 
 const USAGE: &str = "usage: show [JOBFILE]
 Prints by names what a job file, or standard input where none is named, holds:
