@@ -15,7 +15,7 @@ import re
 import sys
 
 WORD = r"[^\s(){}.;,@\"«»`|\[\]]+"
-DEFINITION = re.compile(rf"^ *(?:(?:abbrev|unfoldable|pub) )*({WORD}) :(?= |$)", re.M)
+DEFINITION = re.compile(rf"^ *(?:(?:abbrev|unfoldable|pub) )*({WORD})(?: \{{[^{{}}\n]*\}})? :(?= |$)", re.M)
 TYPE = re.compile(rf"^(?:(?:pub) )?(?:data|record) ({WORD})", re.M)
 MEMBER = re.compile(rf"^ +(?:pub )?((?:{WORD} )+): ", re.M)
 LISTED = re.compile(rf"^ +((?:{WORD} )+): ", re.M)
@@ -126,6 +126,21 @@ def turn_page(text, names):
     return re.sub(r"`[^`\n]*`", lambda m: turn(m.group(0), names, False), text)
 
 
+def turn_local(text, label_file):
+    """Turns the names that a file alone knows: bound variables, and the names under which it imports."""
+    code = bare(text)
+    kept = set(re.findall(r"goal\.([\w'-]+)", code)) if label_file else set()
+    for listed in re.findall(r"\buse [^\s{;]+\.\{([^}]*)\}", code):
+        kept |= {name.strip().split(" as ")[0] for name in listed.split(",")}
+    tokens = set(re.findall(r"(?<![\w'.\-])[A-Za-z][\w']*(?:-[\w']+)+(?![\w'-])", code)) - kept
+    return {n: n.lower().replace("-", "_") for n in tokens}
+
+
+def split_comment(line):
+    m = re.search(r"(?:(?<=\s)|^)--(?=\s|$)", line)
+    return (line[:m.start()], line[m.start():]) if m else (line, "")
+
+
 def write(path, text, new, check):
     if text != new and not check:
         with open(path, "w", encoding="utf-8") as f:
@@ -148,10 +163,16 @@ def main():
     n = 0
     for path in antt_files():
         text = read(path)
-        n += write(path, text, turn_antt(text, names, is_label_file(path)), check)
+        label_file = is_label_file(path)
+        lines = turn_antt(text, names, label_file).split("\n")
+        locals_of = turn_local("\n".join(lines), label_file)
+        lines = [turn(code, locals_of, True) + rest for code, rest in (split_comment(line) for line in lines)]
+        n += write(path, text, "\n".join(lines), check)
     for path in sorted(glob.glob("crates/*/src/**/*.rt", recursive=True)):
         text = read(path)
-        n += write(path, text, turn_rust(text, names), check)
+        new = turn_rust(text, names)
+        aliases = {a: spelt(a) for listed in re.findall(r"ghost use [^\s{;]+\.\{([^}]*)\}", new) for a in re.findall(r" as ([\w'-]+)", listed) if "-" in a}
+        n += write(path, text, turn_rust(new, aliases) if aliases else new, check)
     for path in sorted(glob.glob("crates/*/must-fail/*.edit")):
         text = read(path)
         n += write(path, text, turn(text, names, False) if "file: specs/" in text else text, check)

@@ -11,14 +11,14 @@ use Rattle.golog.specs.Positions.{positions, first_position, may_stop}
 use Rattle.golog.specs.Sheets.{most_positions, no_number, number_bound, number_at, row, surely_below, true_row, sound_row, has_row, fits, Accepts, Within, numbered_by, numbers_to, numbers, act_or_none, first_act, acts, Made, made_from, tables_after}
 use Rattle.golog.specs.Sheets.Made.{oversize}
 use Rattle.golog.specs.Sureness.{MadeIsAccepted}
-use Rattle.golog.proofs.Searches.{lowest_none, lowest_some, getD-table, length-table}
+use Rattle.golog.proofs.Searches.{lowest_none, lowest_some, getD_table, length_table}
 use Rattle.golog.proofs.Passing.{first_in}
 use Rattle.golog.proofs.Numbers.{lead_in, usable_acts, surely_parts, surely_from, number_in, numbers_are_least}
 use Rattle.golog.proofs.Sure.{fits_few, first_number, made_some, made_none}
 
 numbers_to_length : (m : Meaning) (δ : Prog) (n : ℕ) → length (numbers_to m δ n) ≡ positions m δ
-numbers_to_length m δ zero = length-table (positions m δ) _
-numbers_to_length m δ (suc n) = length-table (positions m δ) (numbered_by m δ (suc n) (numbers_to m δ n))
+numbers_to_length m δ zero = length_table (positions m δ) _
+numbers_to_length m δ (suc n) = length_table (positions m δ) (numbered_by m δ (suc n) (numbers_to m δ n))
 
 -- what surely leads below depends on the numbers at the positions alone
 surely_same : (m : Meaning) (δ : Prog) (N M : List ℕ) (n p a : ℕ) → Lawful m →
@@ -71,7 +71,7 @@ module _ (m : Meaning) (δ : Prog) (p : ℕ) (h : p < positions m δ) where
   unfolding act_here number_here
   act_by b e =
       let g : Bool → ℕ = λ b. elim b [ true ↦ no_act | false ↦ first_act m δ (numbers m δ) p number_here ] in
-      getD-table (positions m δ)
+      getD_table (positions m δ)
       (λ p. let n = get_or (numbers m δ) p no_number in elim (eqb n 0 || eqb n no_number) [ true ↦ no_act | false ↦ first_act m δ (numbers m δ) p n ]) p no_act h
       ∙ ap g e
 
@@ -116,7 +116,7 @@ module _ (m : Meaning) (law : Lawful m) (live : Live m) (δ : Prog) (few : posit
   same_act : (p : ℕ) → p < positions m δ → get_or A' p no_act ≡ get_or (acts m δ) p no_act
   unfolding A'
   same_act p h =
-      let l : length (acts m δ) ≡ positions m δ = length-table (positions m δ) _ in
+      let l : length (acts m δ) ≡ positions m δ = length_table (positions m δ) _ in
       get_or_append_left (acts m δ) B no_act p (omega arith)
 
   number_there : (p : ℕ) → p < positions m δ → number_at m δ N' p ≡ get_or (numbers m δ) p no_number
@@ -160,7 +160,7 @@ module _ (m : Meaning) (law : Lawful m) (live : Live m) (δ : Prog) (few : posit
   unfolding N' A'
   accepted_there l =
       let a = numbers_to_length m δ (positions m δ) in
-      let b : length (acts m δ) ≡ positions m δ = length-table (positions m δ) _ in
+      let b : length (acts m δ) ≡ positions m δ = length_table (positions m δ) _ in
       let c = length-append (numbers m δ) M in
       let d = length-append (acts m δ) B in (
         and_from (leb (positions m δ) most_positions) (leb (positions m δ) (length N') && leb (positions m δ) (length A')) (le-leb (positions m δ) most_positions few)

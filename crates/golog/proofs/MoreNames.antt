@@ -50,7 +50,7 @@ fact_more : (K : List Frame) (A : Sofar) (B : Base) (L : List Nest) (O : CondSof
 fact_more K A B L O none y h r e = absurd (none_some e)
 fact_more K A B L O (some i) y h r e = subst (λ z. moved (fact_word K A B L O z) ≡ some r) (sym (h i refl)) e
 
-module _ (N M : Names) (facts-more : More N.facts M.facts) (acts_more : More N.acts M.acts) where
+module _ (N M : Names) (facts_more : More N.facts M.facts) (acts_more : More N.acts M.acts) where
   advance_more : (s : State) (w : Word) (r : State) → moved (advance N s w) ≡ some r → moved (advance M s w) ≡ some r
   advance_more (want K A) (name w) r e = act_more K A (number_of N.acts w) (number_of M.acts w) (acts_more w) r e
   advance_more (want K A) open_round r e = e
@@ -69,7 +69,7 @@ module _ (N M : Names) (facts-more : More N.facts M.facts) (acts_more : More N.a
   advance_more (have K A p) (cond_behind b) r e = e
   advance_more (have K A p) strange r e = e
   advance_more (want_cond K A B L O) (name w) r e =
-      fact_more K A B L O (number_of N.facts w) (number_of M.facts w) (facts-more w) r e
+      fact_more K A B L O (number_of N.facts w) (number_of M.facts w) (facts_more w) r e
   advance_more (want_cond K A B L O) open_round r e = e
   advance_more (want_cond K A B L O) close_round r e = e
   advance_more (want_cond K A B L O) (begins b) r e = e

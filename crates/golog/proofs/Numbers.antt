@@ -4,13 +4,13 @@ use mathlib.Core.Option.{Option, none, some}
 use lib.Arith.{digits_lt}
 use Rattle.std.proofs.lemmas.Bool.{cases_Bool, cases_lt, cases_eq, and_parts, and_from, or_cases, or_left, or_right, not_from_false, not-true, eq-eqb, ne_eqb, ltb-true, lt-ltb, cond-true, cond-false, both_ways}
 use Rattle.locks.specs.Meaning.{Meaning, Lawful, Live, reactions, any_below}
-use Rattle.golog.specs.Search.{all_below, lowest, table-from}
+use Rattle.golog.specs.Search.{all_below, lowest, table_from}
 use Rattle.golog.specs.Programs.{Prog}
 use Rattle.golog.specs.Points.{points, goes_on}
 use Rattle.golog.specs.Positions.{positions, position, state_of, may_stop, next_by, usable, Lead, lead_to, lead}
 use Rattle.golog.specs.Positions.Lead.{to, lost}
 use Rattle.golog.specs.Sheets.{no_number, most_positions, number_at, lead_below, surely_below, Within, numbered_by, numbers_to, row_count, NumbersAreLeast}
-use Rattle.golog.proofs.Searches.{any_found, any_from, all_found, all_from, lowest_some, getD-table, length-table, table-from-same}
+use Rattle.golog.proofs.Searches.{any_found, any_from, all_found, all_from, lowest_some, getD_table, length_table, table_from_same}
 
 -- a reaction leads to a position
 pub lead_found : (m : Meaning) (s : ℕ) (x : Option ℕ) (q : ℕ) → lead_to m s x ≡ to q → (k : ℕ) × (x ≡ some k) × (position m k s ≡ q)
@@ -99,10 +99,10 @@ at m δ n p = get_or (numbers_to m δ n) p no_number
 
 module _ (m : Meaning) (law : Lawful m) (δ : Prog) where
   at_zero : (p : ℕ) → p < positions m δ → at m δ 0 p ≡ cond (may_stop m δ p) 0 no_number
-  at_zero p h = getD-table (positions m δ) (λ q. cond (may_stop m δ q) 0 no_number) p no_number h
+  at_zero p h = getD_table (positions m δ) (λ q. cond (may_stop m δ q) 0 no_number) p no_number h
 
   at_suc : (n p : ℕ) → p < positions m δ → at m δ (suc n) p ≡ numbered_by m δ (suc n) (numbers_to m δ n) p
-  at_suc n p h = getD-table (positions m δ) (numbered_by m δ (suc n) (numbers_to m δ n)) p no_number h
+  at_suc n p h = getD_table (positions m δ) (numbered_by m δ (suc n) (numbers_to m δ n)) p no_number h
 
   by_cases : (n : ℕ) (N : List ℕ) (p : ℕ) (b : Bool) → eqb (get_or N p no_number) no_number ≡ b →
       numbered_by m δ n N p ≡ elim b [ true ↦ cond (any_below m.acts (surely_below m δ N n p)) n no_number | false ↦ get_or N p no_number ]
@@ -262,13 +262,13 @@ row_count_bound (n ∷ N) =
       | inr x ↦ let e = row_some n N x in omega arith
     ]
 
-row_count_some : (k n : ℕ) (f : ℕ → ℕ) (p : ℕ) → k ≤ p → p < k + n → (f p ≡ no_number → ⊥) → 1 ≤ row_count (table-from k n f)
+row_count_some : (k n : ℕ) (f : ℕ → ℕ) (p : ℕ) → k ≤ p → p < k + n → (f p ≡ no_number → ⊥) → 1 ≤ row_count (table_from k n f)
 row_count_some k zero f p a b x = absurd (omega arith)
 row_count_some k (suc n) f p a b x =
     elim (cases_eq (f k) no_number) [
-      | inr y ↦ let e = row_some (f k) (table-from (suc k) n f) y in omega arith
+      | inr y ↦ let e = row_some (f k) (table_from (suc k) n f) y in omega arith
       | inl y ↦
-          let e = row_none (f k) (table-from (suc k) n f) y in
+          let e = row_none (f k) (table_from (suc k) n f) y in
           elim (cases_eq k p) [
             | inl z ↦ absurd (x (subst (λ j. f j ≡ no_number) z y))
             | inr z ↦ let r = row_count_some (suc k) n f p (omega arith) (omega arith) x in omega arith
@@ -278,8 +278,8 @@ row_count_some k (suc n) f p a b x =
 -- a table that keeps the rows of another has more of them, or is the same
 abbrev More : ℕ → ℕ → (ℕ → ℕ) → (ℕ → ℕ) → Type 0
 More k n f g =
-    (((p : ℕ) → k ≤ p → p < k + n → g p ≡ f p) × (row_count (table-from k n g) ≡ row_count (table-from k n f)))
-    ⊎ (row_count (table-from k n f) < row_count (table-from k n g))
+    (((p : ℕ) → k ≤ p → p < k + n → g p ≡ f p) × (row_count (table_from k n g) ≡ row_count (table_from k n f)))
+    ⊎ (row_count (table_from k n f) < row_count (table_from k n g))
 
 more_head : (k n : ℕ) (f g : ℕ → ℕ) → (f k ≡ no_number) ⊎ (g k ≡ f k) → More (suc k) n f g → More k (suc n) f g
 more_head k n f g h rest =
@@ -288,24 +288,24 @@ more_head k n f g h rest =
           elim h [
             | inl y ↦ absurd (x y)
             | inr y ↦
-                let e = row_some (f k) (table-from (suc k) n f) x in
-                let d = row_some (g k) (table-from (suc k) n g) (λ z. x (sym y ∙ z)) in
+                let e = row_some (f k) (table_from (suc k) n f) x in
+                let d = row_some (g k) (table_from (suc k) n g) (λ z. x (sym y ∙ z)) in
                 elim rest [
                   | inl (s, c) ↦ inl (here y s, omega arith)
                   | inr c ↦ inr (omega arith)
                 ]
           ]
       | inl x ↦
-          let e = row_none (f k) (table-from (suc k) n f) x in
+          let e = row_none (f k) (table_from (suc k) n f) x in
           elim (cases_eq (g k) no_number) [
             | inl y ↦
-                let d = row_none (g k) (table-from (suc k) n g) y in
+                let d = row_none (g k) (table_from (suc k) n g) y in
                 elim rest [
                   | inl (s, c) ↦ inl (here (y ∙ sym x) s, omega arith)
                   | inr c ↦ inr (omega arith)
                 ]
             | inr y ↦
-                let d = row_some (g k) (table-from (suc k) n g) y in
+                let d = row_some (g k) (table_from (suc k) n g) y in
                 elim rest [ inl (s, c) ↦ inr (omega arith) | inr c ↦ inr (omega arith) ]
           ]
     ]
@@ -323,20 +323,20 @@ module _ (m : Meaning) (law : Lawful m) (δ : Prog) where
   rows : ℕ → ℕ
   rows n = row_count (numbers_to m δ n)
 
-  rows_table : (n : ℕ) → rows n ≡ row_count (table-from 0 (positions m δ) (at m δ n))
+  rows_table : (n : ℕ) → rows n ≡ row_count (table_from 0 (positions m δ) (at m δ n))
   unfolding rows
   rows_table zero =
       ap row_count
-      (table-from-same 0 (positions m δ) (λ q. cond (may_stop m δ q) 0 no_number) (at m δ 0) (λ p a b. sym (at_zero m law δ p (omega arith))))
+      (table_from_same 0 (positions m δ) (λ q. cond (may_stop m δ q) 0 no_number) (at m δ 0) (λ p a b. sym (at_zero m law δ p (omega arith))))
   rows_table (suc n) =
       ap row_count
-      (table-from-same 0 (positions m δ) (numbered_by m δ (suc n) (numbers_to m δ n)) (at m δ (suc n)) (λ p a b. sym (at_suc m law δ n p (omega arith))))
+      (table_from_same 0 (positions m δ) (numbered_by m δ (suc n) (numbers_to m δ n)) (at m δ (suc n)) (λ p a b. sym (at_suc m law δ n p (omega arith))))
 
   rows_bound : (n : ℕ) → rows n ≤ positions m δ
   rows_bound n =
       let e = rows_table n in
-      let b = row_count_bound (table-from 0 (positions m δ) (at m δ n)) in
-      let l = length-table (positions m δ) (at m δ n) in
+      let b = row_count_bound (table_from 0 (positions m δ) (at m δ n)) in
+      let l = length_table (positions m δ) (at m δ n) in
       omega arith
 
   -- a round adds a row, or none

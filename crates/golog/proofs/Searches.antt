@@ -4,7 +4,7 @@ use mathlib.Core.Bool.{false≢true}
 use mathlib.Core.Option.{Option, none, some}
 use Rattle.std.proofs.lemmas.Bool.{cases_eq, or_cases, or_left, or_right, and_parts, and_from}
 use Rattle.locks.specs.Meaning.{any_below}
-use Rattle.golog.specs.Search.{all_below, lowest_from, lowest, table-from, table}
+use Rattle.golog.specs.Search.{all_below, lowest_from, lowest, table_from, table}
 
 pub any_found : (n : ℕ) (t : ℕ → Bool) → any_below n t ≡ true → (k : ℕ) × (k < n) × (t k ≡ true)
 any_found zero t e = absurd (false≢true e)
@@ -70,24 +70,24 @@ lowest_some n t i e =
     (omega arith, c, λ j h. d j (omega arith) h)
 
 -- tables
-getD-table-from {ℓ} : {A : Type ℓ} (k n : ℕ) (f : ℕ → A) (p : ℕ) (d : A) → p < n → get_or (table-from k n f) p d ≡ f (k + p)
-getD-table-from k zero f p d h = absurd (omega arith)
-getD-table-from k (suc n) f zero d h = ap f (sym (add-zero k))
-getD-table-from k (suc n) f (suc p) d h =
-    getD-table-from (suc k) n f p d (omega arith) ∙ ap f (omega arith)
+getD_table_from {ℓ} : {A : Type ℓ} (k n : ℕ) (f : ℕ → A) (p : ℕ) (d : A) → p < n → get_or (table_from k n f) p d ≡ f (k + p)
+getD_table_from k zero f p d h = absurd (omega arith)
+getD_table_from k (suc n) f zero d h = ap f (sym (add-zero k))
+getD_table_from k (suc n) f (suc p) d h =
+    getD_table_from (suc k) n f p d (omega arith) ∙ ap f (omega arith)
 
-pub getD-table {ℓ} : {A : Type ℓ} (n : ℕ) (f : ℕ → A) (p : ℕ) (d : A) → p < n → get_or (table n f) p d ≡ f p
-getD-table n f p d h = getD-table-from 0 n f p d h ∙ ap f (zero-add p)
+pub getD_table {ℓ} : {A : Type ℓ} (n : ℕ) (f : ℕ → A) (p : ℕ) (d : A) → p < n → get_or (table n f) p d ≡ f p
+getD_table n f p d h = getD_table_from 0 n f p d h ∙ ap f (zero-add p)
 
-length-table-from {ℓ} : {A : Type ℓ} (k n : ℕ) (f : ℕ → A) → length (table-from k n f) ≡ n
-length-table-from k zero f = refl
-length-table-from k (suc n) f = ap suc (length-table-from (suc k) n f)
+length_table_from {ℓ} : {A : Type ℓ} (k n : ℕ) (f : ℕ → A) → length (table_from k n f) ≡ n
+length_table_from k zero f = refl
+length_table_from k (suc n) f = ap suc (length_table_from (suc k) n f)
 
-pub length-table {ℓ} : {A : Type ℓ} (n : ℕ) (f : ℕ → A) → length (table n f) ≡ n
-length-table n f = length-table-from 0 n f
+pub length_table {ℓ} : {A : Type ℓ} (n : ℕ) (f : ℕ → A) → length (table n f) ≡ n
+length_table n f = length_table_from 0 n f
 
-pub table-from-same {ℓ} :
-    {A : Type ℓ} (k n : ℕ) (f g : ℕ → A) → ((p : ℕ) → k ≤ p → p < k + n → f p ≡ g p) → table-from k n f ≡ table-from k n g
-table-from-same k zero f g h = refl
-table-from-same k (suc n) f g h =
-    ap₂ ◌∷◌ (h k (omega arith) (omega arith)) (table-from-same (suc k) n f g (λ p a b. h p (omega arith) (omega arith)))
+pub table_from_same {ℓ} :
+    {A : Type ℓ} (k n : ℕ) (f g : ℕ → A) → ((p : ℕ) → k ≤ p → p < k + n → f p ≡ g p) → table_from k n f ≡ table_from k n g
+table_from_same k zero f g h = refl
+table_from_same k (suc n) f g h =
+    ap₂ ◌∷◌ (h k (omega arith) (omega arith)) (table_from_same (suc k) n f g (λ p a b. h p (omega arith) (omega arith)))

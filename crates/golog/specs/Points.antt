@@ -99,7 +99,7 @@ together facts δ p q r =
 abbrev pub go_on_together : ℕ → Prog → ℕ → ℕ → Bool
 go_on_together facts δ q r = any_below (2 ^ facts) (λ n. goes_on δ (valuation n) q && goes_on δ (valuation n) r)
 
--- the ground of the two_ways fault
+-- the ground of the two-ways fault
 abbrev pub two_ways_at : ℕ → Prog → ℕ → ℕ → ℕ → Bool
 two_ways_at facts δ p q r = nat_lt q r && (together facts δ p q r && go_on_together facts δ q r)
 
@@ -117,7 +117,7 @@ abbrev pub ways : ℕ → Prog → Ways
 ways facts δ =
     let n = points δ in ways_of n (lowest (n * n * n) (λ k. two_ways_at facts δ (k / (n * n)) ((k / n) % n) (k % n)))
 
--- the place of the two_ways fault
+-- the place of the two-ways fault
 abbrev pub ways_place : ℕ → ℕ → ℕ → ℕ
 ways_place p q r = p * 4096 + q * 64 + r
 

@@ -17,10 +17,10 @@ abbrev pub lowest : ℕ → (ℕ → Bool) → Option ℕ
 lowest n t = lowest_from 0 n t
 
 -- the list of f k, f (k + 1) and so on, n of them
-abbrev pub table-from {ℓ} : {A : Type ℓ} → ℕ → ℕ → (ℕ → A) → List A
-table-from k zero f = []
-table-from k (suc n) f = f k ∷ table-from (suc k) n f
+abbrev pub table_from {ℓ} : {A : Type ℓ} → ℕ → ℕ → (ℕ → A) → List A
+table_from k zero f = []
+table_from k (suc n) f = f k ∷ table_from (suc k) n f
 
 -- the list of f 0 to f (n - 1)
 abbrev pub table {ℓ} : {A : Type ℓ} → ℕ → (ℕ → A) → List A
-table n f = table-from 0 n f
+table n f = table_from 0 n f

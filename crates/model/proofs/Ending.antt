@@ -73,7 +73,7 @@ pub live_unstuck : (m : Meaning) → Live m → first_stuck m ≡ None
 live_unstuck m live = nowhere_stuck m.acts m (λ a _ s.
     elim (cases_Bool (m.allowed s a)) [
       | inl may ↦ and_right _ _ (not_from_true _ (live s a may))
-      | inr not-allowed ↦ and_left _ _ not-allowed
+      | inr not_allowed ↦ and_left _ _ not_allowed
     ])
 
 -- an act is allowed only in a state and only if it is an act
@@ -104,12 +104,12 @@ lowest_is_said (Listed l) h c st =
     same ∙ sym (cond-false _ _ _ (ne_eqb h.form 1 other))
 
 -- the fault at the end: an act that is stuck, the layer, or none
-module _ (low : Lowest) (h : Header) (c : Contents) (end : ℕ) (st : LowestStands low h c) (All-there : lacking h c ≡ false) where
+module _ (low : Lowest) (h : Header) (c : Contents) (end : ℕ) (st : LowestStands low h c) (all_there : lacking h c ≡ false) where
   is_said : lowest_lock low ≡ lowest_said h c
   is_said = lowest_is_said low h c st
 
   from_live : (o : Option (ℕ × ℕ)) → first_stuck (lowest_lock low) ≡ o → closing h c end ≡ closing_live o h c
-  from_live o e = cond-false _ _ _ All-there ∙ ap (λ x. closing_live x h c) (ap first_stuck (sym is_said) ∙ e)
+  from_live o e = cond-false _ _ _ all_there ∙ ap (λ x. closing_live x h c) (ap first_stuck (sym is_said) ∙ e)
 
   pub ends_stuck : (a s : ℕ) → FirstStuck (lowest_lock low) a s → closing h c end ≡ Some (Stuck a s)
   ends_stuck a s f = from_live (Some (a, s)) (stuck_first low a s f)

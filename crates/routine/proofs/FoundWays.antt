@@ -14,7 +14,7 @@ use Rattle.golog.proofs.Searches.{none_of, lowest_none, lowest_some}
 use Rattle.routine.specs.Found.{NoneBelow}
 
 pub lowest_is : (n : ℕ) (t : ℕ → Bool) (k : ℕ) → k < n → t k ≡ true → NoneBelow k t → lowest n t ≡ some k
-lowest_is n t k h e none-lower = found (lowest n t) refl
+lowest_is n t k h e none_lower = found (lowest n t) refl
   where
     found : (x : Option ℕ) → lowest n t ≡ x → x ≡ some k
     found none f = absurd (both_ways (t k) (lowest_none n t f k h) e)
@@ -22,7 +22,7 @@ lowest_is n t k h e none-lower = found (lowest n t) refl
         let (_, a, b) = lowest_some n t i f in
         elim (cases_order i k) [
           | inl z ↦ ap some z
-          | inr (inl z) ↦ absurd (both_ways (t i) (none-lower i z) a)
+          | inr (inl z) ↦ absurd (both_ways (t i) (none_lower i z) a)
           | inr (inr z) ↦ absurd (both_ways (t k) (b k z) e)
         ]
 
@@ -35,7 +35,7 @@ module _ (facts : ℕ) (δ : Prog) where
 
   pub no_ways : ((p : ℕ) → p < points δ → (q : ℕ) → q < points δ → NoneBelow (points δ) (two_ways_at facts δ p q)) → ways facts δ ≡ one_way
   unfolding n at
-  no_ways none-of-all =
+  no_ways none_of_all =
       ap (ways_of (points δ))
       (none_of (lowest (points δ * points δ * points δ) at)
       (λ k e.
@@ -44,7 +44,7 @@ module _ (facts : ℕ) (δ : Prog) where
       let p : k / (points δ * points δ) < points δ =
       ap_below k (points δ) z h in
       both_ways (at k)
-      (none-of-all (k / (points δ * points δ)) p ((k / points δ) % points δ) (mod_below (k / points δ) (points δ) z) (k % points δ) (mod_below k (points δ) z)) a))
+      (none_of_all (k / (points δ * points δ)) p ((k / points δ) % points δ) (mod_below (k / points δ) (points δ) z) (k % points δ) (mod_below k (points δ) z)) a))
     where
       ap_below : (k m : ℕ) → 0 < m → k < m * m * m → k / (m * m) < m
       ap_below k m z h =

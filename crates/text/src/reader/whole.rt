@@ -1,6 +1,6 @@
 ghost use Rattle.std.specs.Prelude.{◌≡◌, ◌<◌, length, MatchResult};
 ghost use Rattle.golog.specs.Reading.{read};
-ghost use Rattle.golog.specs.Reading.Reading.{tree as a-tree};
+ghost use Rattle.golog.specs.Reading.Reading.{tree as a_tree};
 ghost use Rattle.tree.specs.Held.{nodes, prog_at};
 ghost use Rattle.text.specs.Faults.{Tells};
 ghost use Rattle.text.specs.Rest.{both_names};
@@ -19,7 +19,7 @@ pub(crate) fn read_whole<'a>(
     acts: &'a Names,
     text: &[u8],
 ) -> Result<(Tree, u16), TextFault>
-    ensures { MatchResult result (λ p. (p.1 < length (nodes p.0)) × (read (both_names facts.now acts.now) text.now ≡ a-tree (prog_at p.0 p.1))) (λ f. Tells f (read (both_names facts.now acts.now) text.now)) }
+    ensures { MatchResult result (λ p. (p.1 < length (nodes p.0)) × (read (both_names facts.now acts.now) text.now ≡ a_tree (prog_at p.0 p.1))) (λ f. Tells f (read (both_names facts.now acts.now) text.now)) }
 {
     let known = Known {
         facts,
