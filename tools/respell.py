@@ -4,9 +4,10 @@
 usage: tools/respell.py [--check]      at the top of the repository
 
 The names are those that specs/ and the lemma files of proofs/ declare: definitions, records and their fields, data and their constructors.
-A name turns as a whole word, in every .antt file, in the clauses of .rt files, in the lines of must-fail edits and in code spans of pages.
-Strings of Rust, comments outside of code spans, and the labels that the prover makes (behind `goal.`, and the steps of `c.`) stay.
---check writes nothing, and lists the names and those that fall together. A second run writes nothing more.
+A name turns as a whole word, in every .antt file, in the clauses of .rt files, in must-fail edits of specs/ and in code spans of pages.
+Strings of Rust, comments but for code spans and a first word that is a name, and the labels that the prover makes (behind `goal.`, and the steps of `c.`) stay.
+Bound variables and the names of imports turn too, each in its own file.
+--check writes nothing, and lists the names, old and new, and those that fall together. A second run writes nothing more.
 """
 import collections
 import glob
@@ -17,8 +18,6 @@ import sys
 WORD = r"[^\s(){}.;,@\"«»`|\[\]]+"
 DEFINITION = re.compile(rf"^ *(?:(?:abbrev|unfoldable|pub) )*({WORD})(?: \{{[^{{}}\n]*\}})? :(?= |$)", re.M)
 TYPE = re.compile(rf"^(?:(?:pub) )?(?:data|record) ({WORD})", re.M)
-MEMBER = re.compile(rf"^ +(?:pub )?((?:{WORD} )+): ", re.M)
-LISTED = re.compile(rf"^ +((?:{WORD} )+): ", re.M)
 
 
 def read(path):
@@ -96,7 +95,7 @@ def turn_code(text, names, label_file):
     if not label_file:
         return turn(text, names, False)
     labels = set(re.findall(r"goal\.([\w'-]+)", text))
-    text = turn_dotted(text, names, labels | {n for n in names if False})
+    text = turn_dotted(text, names, labels)
     text = turn(text, {k: v for k, v in names.items() if k not in labels}, True)
     return re.sub(r"(?<=\))\.([\w'-]+)", lambda m: "." + names.get(m.group(1), m.group(1)), text)
 
@@ -158,6 +157,9 @@ def main():
         if new in found:
             met[new].add(new)
     together = {new: olds for new, olds in met.items() if len(olds) > 1}
+    if check:
+        for old, new in sorted(names.items()):
+            print(f"{old}\t{new}")
     for new, olds in sorted(together.items()):
         print("together:", new, sorted(olds), sorted({p for o in olds for p in found[o]}))
     n = 0
