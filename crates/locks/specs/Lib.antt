@@ -5,3 +5,4 @@ pub mod Allowed
 pub mod LayerLaws
 pub mod AllowanceLaws
 pub mod AnyBelow
+pub mod Facts

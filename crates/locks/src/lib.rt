@@ -2,6 +2,7 @@
 #![tactic(auto)]
 
 pub mod allowance;
+pub mod facts;
 pub mod lock;
 pub mod marks;
 pub mod stuck;
