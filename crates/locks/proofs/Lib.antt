@@ -1,2 +1,1 @@
-pub mod AfterBelow
-pub mod Naming
+pub mod Searches

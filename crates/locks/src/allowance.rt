@@ -4,9 +4,8 @@ ghost use Rattle.locks.specs.Layer.{layered, fits, admitted};
 ghost use Rattle.locks.specs.LayerLaws.{layered_lawful, layered_live};
 ghost use Rattle.locks.specs.AllowanceLaws.{allowance_sound, allowance_lively};
 
-use crate::lock::{LiveLock, Lock, MOST_STATES, NO_REACTION, REACTIONS};
+use crate::lock::{LiveLock, Lock, MOST_STATES, REACTIONS};
 use crate::marks::Marks;
-use crate::stuck::lowest_possible;
 
 // The most marked reactions that an allowance may bear.
 pub const MOST_BORNE: u8 = 7;
@@ -35,6 +34,7 @@ pub struct Allowance<L> {
 }
 
 impl<L: Lock> Allowance<L> {
+    // Refused if the allowance is above 7, and then if the layer would have too many states.
     pub fn new(lower: L, marks: Marks, most: u8) -> Result<Allowance<L>, RefusedLayer<L>>
         ensures { MatchResult result (λ p. (layer_fault (L.Lock.meaning lower) most ≡ None) × (p.lower ≡ lower) × (p.marks ≡ marks) × (p.most ≡ most)) (λ e. (layer_fault (L.Lock.meaning lower) most ≡ Some e.fault) × (e.lower ≡ lower)) }
     {
@@ -44,7 +44,7 @@ impl<L: Lock> Allowance<L> {
                 fault: LayerFault::Allowance(most),
             });
         }
-        let states = lower.states() * (most as u32 + 1);
+        let states = lower.states() * (u32::from(most) + 1);
         if states > MOST_STATES {
             return Err(RefusedLayer {
                 lower,
@@ -57,7 +57,7 @@ impl<L: Lock> Allowance<L> {
     fn size(&self) -> u32
         ensures { result ≡ self.now.most + 1 }
     {
-        self.most as u32 + 1
+        u32::from(self.most) + 1
     }
 
     // Whether the layer has few enough states for a lock; if not, it means the lock below.
@@ -67,15 +67,30 @@ impl<L: Lock> Allowance<L> {
         self.lower.states() * self.size() <= MOST_STATES
     }
 
+    // The state of the lock below.
+    fn below(&self, state: u32) -> u32
+        ensures { result ≡ (if fits (L.Lock.meaning self.now.lower) (self.now.most + 1) then state / (self.now.most + 1) else state) }
+    {
+        if self.fits() {
+            state / self.size()
+        } else {
+            state
+        }
+    }
+
+    // How many marked reactions are left; nothing if the layer means the lock below.
+    fn left(&self, state: u32) -> Option<u32>
+        ensures { result ≡ (if fits (L.Lock.meaning self.now.lower) (self.now.most + 1) then Some (state % (self.now.most + 1)) else None) }
+    {
+        self.fits().then(|| state % self.size())
+    }
+
     fn unmarked_possible(&self, below: u32, act: u8) -> bool
         ensures { result ≡ unmarked_possible (marked self.now.marks) ((L.Lock.meaning self.now.lower).possible below act) act }
     {
-        for reaction in 0..REACTIONS {
-            if self.lower.possible(below, act, reaction) && !self.marks.has(act, reaction) {
-                return true;
-            }
-        }
-        false
+        (0..REACTIONS).any(|reaction| {
+            self.lower.possible(below, act, reaction) && !self.marks.has(act, reaction)
+        })
     }
 
     fn admits(&self, below: u32, left: u32, act: u8, reaction: u8) -> bool
@@ -117,52 +132,42 @@ impl<L: Lock> Lock for Allowance<L> {
     }
 
     fn first(&self) -> u32 {
-        if !self.fits() {
-            return self.lower.first();
+        if self.fits() {
+            self.lower.first() * self.size() + u32::from(self.most)
+        } else {
+            self.lower.first()
         }
-        self.lower.first() * self.size() + self.most as u32
     }
 
     fn holds(&self, state: u32, fact: u8) -> bool {
-        if !self.fits() {
-            return self.lower.holds(state, fact);
-        }
-        self.lower.holds(state / self.size(), fact)
+        self.lower.holds(self.below(state), fact)
     }
 
     fn allowed(&self, state: u32, act: u8) -> bool {
-        if !self.fits() {
-            return self.lower.allowed(state, act);
-        }
-        self.lower.allowed(state / self.size(), act)
+        self.lower.allowed(self.below(state), act)
     }
 
     fn possible(&self, state: u32, act: u8, reaction: u8) -> bool {
-        if !self.fits() {
-            return self.lower.possible(state, act, reaction);
+        let below = self.below(state);
+        match self.left(state) {
+            Some(left) => self.admits(below, left, act, reaction),
+            None => self.lower.possible(below, act, reaction),
         }
-        let size = self.size();
-        self.admits(state / size, state % size, act, reaction)
     }
 
     fn after(&self, state: u32, act: u8, reaction: u8) -> u32 {
-        if !self.fits() {
-            return self.lower.after(state, act, reaction);
+        let below = self.below(state);
+        let after = self.lower.after(below, act, reaction);
+        match self.left(state) {
+            Some(left) if self.admits(below, left, act, reaction) => {
+                after * self.size() + self.next_left(left, act, reaction)
+            }
+            Some(_) => 0,
+            None => after,
         }
-        let size = self.size();
-        let below = state / size;
-        let left = state % size;
-        if !self.admits(below, left, act, reaction) {
-            return 0;
-        }
-        self.lower.after(below, act, reaction) * size + self.next_left(left, act, reaction)
     }
 }
 
 impl<L: LiveLock> LiveLock for Allowance<L> {
     ghost live = { λ p. layered_live (L.Lock.meaning p.lower) (allowance (marked p.marks) p.most) (L.LiveLock.live p.lower) (allowance_lively (marked p.marks) p.most) };
-
-    fn named(&self, state: u32, act: u8) -> u8 {
-        lowest_possible(self, state, act).unwrap_or(NO_REACTION)
-    }
 }

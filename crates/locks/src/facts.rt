@@ -25,6 +25,7 @@ impl FactCount {
     pub fn new(count: u8) -> Option<FactCount>
         ensures { MatchOption result (12 < count) (λ c. (c ≡ count) × (count ≤ 12)) }
     {
+        // Not bool's then: the closure would have to ask for the test again, as a clause of its own.
         if count <= MOST_FACTS {
             Some(FactCount { count })
         } else {

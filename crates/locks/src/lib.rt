@@ -3,6 +3,7 @@
 
 pub mod allowance;
 pub mod facts;
+pub mod live;
 pub mod lock;
 pub mod marks;
 pub mod stuck;

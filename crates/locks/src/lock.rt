@@ -1,5 +1,7 @@
-ghost use Rattle.std.specs.Prelude.{◌≡◌};
-ghost use Rattle.locks.specs.Meaning.{Meaning, Lawful, Live, Named};
+ghost use Rattle.std.specs.Prelude.{◌≡◌, ◌+◌, ◌*◌};
+ghost use Rattle.locks.specs.Meaning.{Meaning, Lawful, Live, Named, reactions};
+
+use crate::stuck::lowest_possible;
 
 // The most that a lock may have.
 pub const MOST_STATES: u32 = 32_768;
@@ -12,6 +14,13 @@ pub const MOST_ACTS: u8 = 31;
 pub const REACTIONS: u8 = 8;
 
 pub const NO_REACTION: u8 = 255;
+
+// Where a reaction of an act stands in a table of eight places to an act.
+pub fn reaction_place(act: u8, reaction: u8) -> usize
+    ensures { result ≡ act * reactions + reaction }
+{
+    usize::from(act) * usize::from(REACTIONS) + usize::from(reaction)
+}
 
 // A lock, by its meaning. A question changes nothing; a number out of range gets no.
 pub trait Lock {
@@ -47,8 +56,13 @@ pub trait Lock {
 
 // A lock of which each allowed act has a reaction, and that names the lowest.
 pub trait LiveLock: Lock {
+    // The lowest possible reaction of an allowed act, and 255 of any other. Not an Option: by the project's rule 255
+    // names none, here as in the rows of sheets.
     fn named(&self, state: u32, act: u8) -> u8
-        ensures { Named (Self.Lock.meaning self.now) state act result };
+        ensures { Named (Self.Lock.meaning self.now) state act result }
+    {
+        lowest_possible(self, state, act).unwrap_or(NO_REACTION)
+    }
 
     ghost live: { (l : Self) → Live (Self.Lock.meaning l) };
 }

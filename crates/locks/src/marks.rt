@@ -2,10 +2,10 @@ ghost use Rattle.std.specs.Prelude.{◌≡◌, ◌+◌, ◌*◌, true, false, no
 ghost use Rattle.locks.specs.Meaning.{most_acts, reactions};
 ghost use Rattle.locks.specs.Allowed.{marks_list, markable, marked};
 
-use crate::lock::{MOST_ACTS, REACTIONS};
+use crate::lock::{MOST_ACTS, REACTIONS, reaction_place};
 
 // Eight to each of 31 acts.
-const MARKS: usize = 248;
+const MARKS: usize = MOST_ACTS as usize * REACTIONS as usize;
 
 // Which reactions of which acts are marked.
 #[derive(Clone, Copy)]
@@ -14,6 +14,7 @@ pub struct Marks {
 }
 
 impl Marks {
+    // Nothing is marked.
     pub fn none() -> Marks
         ensures { marks_list result ≡ replicate (most_acts * reactions) false }
     {
@@ -22,12 +23,11 @@ impl Marks {
         }
     }
 
+    // Whether the reaction of the act is marked.
     pub fn has(&self, act: u8, reaction: u8) -> bool
         ensures { result ≡ marked self.now act reaction }
     {
-        act < MOST_ACTS
-            && reaction < REACTIONS
-            && self.table[act as usize * REACTIONS as usize + reaction as usize]
+        act < MOST_ACTS && reaction < REACTIONS && self.table[reaction_place(act, reaction)]
     }
 
     // Marks the reaction; false, and nothing changed, if it cannot be marked or is already.
@@ -39,7 +39,7 @@ impl Marks {
         if act >= MOST_ACTS || reaction >= REACTIONS || self.has(act, reaction) {
             return false;
         }
-        self.table[act as usize * REACTIONS as usize + reaction as usize] = true;
+        self.table[reaction_place(act, reaction)] = true;
         true
     }
 }

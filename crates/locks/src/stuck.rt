@@ -15,12 +15,7 @@ pub struct Stuck {
 pub fn lowest_possible<L: Lock>(lock: &L, state: u32, act: u8) -> Option<u8>
     ensures { MatchOption result (reacts (L.Lock.meaning lock.now) state act ≡ false) (LowestPossible (L.Lock.meaning lock.now) state act) }
 {
-    for reaction in 0..REACTIONS {
-        if lock.possible(state, act, reaction) {
-            return Some(reaction);
-        }
-    }
-    None
+    (0..REACTIONS).find(|reaction| lock.possible(state, act, *reaction))
 }
 
 fn is_stuck<L: Lock>(lock: &L, state: u32, act: u8) -> bool
@@ -33,22 +28,15 @@ fn is_stuck<L: Lock>(lock: &L, state: u32, act: u8) -> bool
 fn stuck_state<L: Lock>(lock: &L, act: u8) -> Option<u32>
     ensures { MatchOption result ((s : ℕ) → stuck (L.Lock.meaning lock.now) s act ≡ false) (LowestStuck (L.Lock.meaning lock.now) act) }
 {
-    for state in 0..lock.states() {
-        if is_stuck(lock, state, act) {
-            return Some(state);
-        }
-    }
-    None
+    (0..lock.states()).find(|state| is_stuck(lock, *state, act))
 }
 
 // The lowest act that is stuck anywhere, with the lowest state in which it is; none of a live lock.
 pub fn first_stuck<L: Lock>(lock: &L) -> Option<Stuck>
     ensures { MatchOption result (Live (L.Lock.meaning lock.now)) (λ x. FirstStuck (L.Lock.meaning lock.now) x.act x.state) }
 {
-    for act in 0..lock.acts() {
-        if let Some(state) = stuck_state(lock, act) {
-            return Some(Stuck { act, state });
-        }
-    }
-    None
+    // Not find_map: where that finds nothing, its contract does not say that every act was asked.
+    (0..lock.acts())
+        .filter_map(|act| stuck_state(lock, act).map(|state| Stuck { act, state }))
+        .next()
 }

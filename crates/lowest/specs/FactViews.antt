@@ -23,11 +23,18 @@ fact_lock lock =
 abbrev pub rule_fits : FactLock → ℕ → Rule → Bool
 rule_fits lock a rule = nat_lt a lock.acts && (rule_short lock.facts rule && not (is_some (rule_in (fact_rules lock) a)))
 
+-- the same, whether or not it has a rule yet
+abbrev pub rule_within : FactLock → ℕ → Rule → Bool
+rule_within lock a rule = nat_lt a lock.acts && rule_short lock.facts rule
+
 -- whether the change can be that of the act and the reaction: likewise
 abbrev pub change_fits : FactLock → ℕ → ℕ → Change → Bool
 change_fits lock a e change =
     (nat_lt a lock.acts && nat_lt e reactions)
     && (change_short lock.facts change && not (is_some (change_in (fact_changes lock) a e)))
+
+abbrev pub change_within : FactLock → ℕ → ℕ → Change → Bool
+change_within lock a e change = (nat_lt a lock.acts && nat_lt e reactions) && change_short lock.facts change
 
 -- two locks that differ in nothing but their rules, or in nothing but their changes
 pub record SameButRules (old new : FactLock) : Type 0 where

@@ -1,7 +1,8 @@
 -- The lock whose states are all the valuations of its facts: in state s fact i holds where bit i of s is set.
 use Rattle.std.specs.Prelude.{ℕ, ◌+◌, ◌*◌, ◌^◌, Bool, false, cond, ◌&&◌, List, Some, None, Option, nat_le, nat_lt, slice_index_or}
 use Rattle.locks.specs.Meaning.{Meaning, most_facts, most_acts, reactions}
-use Rattle.lowest.specs.Bits.{bit, met, rewritten, short}
+use Rattle.locks.specs.Facts.{bit, short}
+use Rattle.lowest.specs.Bits.{met, rewritten}
 use Rattle.lowest.specs.declared.facts.Rule.{Rule}
 use Rattle.lowest.specs.declared.facts.Change.{Change}
 
@@ -60,6 +61,10 @@ rule_short facts rule = short facts rule.need && short facts rule.lack
 abbrev pub change_short : ℕ → Change → Bool
 change_short facts change =
     (short facts change.need && short facts change.lack) && (short facts change.set && short facts change.clear)
+
+-- whether a lock may have so many facts, 1 to 12, and acts, 1 to 31
+abbrev pub count_range : ℕ → ℕ → Bool
+count_range facts acts = (nat_le 1 facts && nat_le facts most_facts) && (nat_le 1 acts && nat_le acts most_acts)
 
 -- whether there can be a lock with these numbers: 1 to 12 facts, 1 to 31 acts, a first state that is a state
 abbrev pub fact_range : ℕ → ℕ → ℕ → Bool

@@ -2,7 +2,7 @@
 use Rattle.std.specs.Prelude.{ℕ, ◌+◌, ◌*◌, Bool, cond, ◌&&◌, List, is_some, None, Option, nat_le, nat_lt, slice_index, slice_index_or}
 use Rattle.std.specs.Option.{unwrap_or}
 use Rattle.locks.specs.Meaning.{Meaning, most_facts, most_acts, reactions, any_below}
-use Rattle.lowest.specs.Bits.{bit}
+use Rattle.locks.specs.Facts.{bit}
 
 -- the most states that can be listed
 abbrev pub most_listed : ℕ

@@ -1,7 +1,7 @@
 -- A listed lock by its parts.
 use Rattle.std.specs.Prelude.{◌≡◌, ℕ, ◌*◌, Bool, not, ◌&&◌, List, [], length, replicate, is_some, None, vec_items, Option, nat_lt}
 use Rattle.locks.specs.Meaning.{Meaning, reactions}
-use Rattle.lowest.specs.Bits.{short}
+use Rattle.locks.specs.Facts.{short}
 use Rattle.lowest.specs.Listed.{listed_meaning, valuation_in, move_in}
 use Rattle.lowest.specs.declared.listed.ListedLock.{ListedLock}
 
@@ -28,6 +28,10 @@ abbrev pub move_fits : ListedLock → ℕ → ℕ → ℕ → ℕ → Bool
 move_fits lock s a e t =
     ((nat_lt s lock.states && nat_lt a lock.acts) && (nat_lt e reactions && nat_lt t lock.states))
     && not (is_some (move_in lock.acts (listed_moves lock) s a e))
+
+-- the same, whether or not they have a move yet
+abbrev pub move_within : ListedLock → ℕ → ℕ → ℕ → ℕ → Bool
+move_within lock s a e t = (nat_lt s lock.states && nat_lt a lock.acts) && (nat_lt e reactions && nat_lt t lock.states)
 
 -- two locks with the same numbers
 pub record SameNumbers (old new : ListedLock) : Type 0 where

@@ -1,8 +1,12 @@
 ghost use Rattle.std.specs.Prelude.{◌≡◌, ℕ, ◌*◌, ◌^◌, ◌<◌, ◌≤◌, None, vec_len, slice_index_or};
+ghost use Rattle.lowest.specs.Bits.{met, rewritten};
 ghost use Rattle.lowest.specs.Facts.{set_bits};
+
+use locks::facts::FactCount;
 
 pub mod answers;
 mod edits;
+mod masks;
 
 // The facts that must hold, and those that must not, for an act to be allowed: a bit for each.
 #[derive(Clone, Copy)]
@@ -12,6 +16,7 @@ pub struct Rule {
 }
 
 // When a reaction is possible, and what it makes of the facts: clear bits go, then set bits come.
+// No Rule inside: a record of a file has the four masks side by side, and is turned into a change field by field.
 #[derive(Clone, Copy)]
 pub struct Change {
     pub need: u16,
@@ -24,7 +29,7 @@ pub struct Change {
 // and a change or none for each act and reaction, eight to an act.
 #[derive(Drop)]
 pub struct FactLock {
-    facts: u8,
+    facts: FactCount,
     acts: u8,
     first: u32,
     rules: Vec<Option<Rule>>,

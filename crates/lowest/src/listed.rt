@@ -1,6 +1,8 @@
 ghost use Rattle.std.specs.Prelude.{◌≡◌, ℕ, ◌*◌, ◌<◌, ◌≤◌, None, vec_len, slice_index_or};
 ghost use Rattle.std.specs.Option.{unwrap_or};
 
+use locks::facts::FactCount;
+
 pub mod answers;
 mod edits;
 
@@ -11,7 +13,7 @@ pub const MOST_LISTED: u32 = 1_024;
 // the state after, or nothing.
 #[derive(Drop)]
 pub struct ListedLock {
-    facts: u8,
+    facts: FactCount,
     acts: u8,
     first: u32,
     states: u32,

@@ -13,6 +13,7 @@ pub enum Lowest {
     Listed(ListedLock),
 }
 
+// Each question names the three kinds: no function may hand out a dyn Lock, and no macro may write the impl.
 impl Lock for Lowest {
     ghost meaning = { lowest_lock };
 

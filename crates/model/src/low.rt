@@ -78,7 +78,7 @@ pub(crate) fn add_rule(lowest: &mut Lowest, act: u8, added: Rule)
 {
     match lowest {
         Lowest::Facts(lock) => {
-            lock.add_rule(act, added);
+            let _ = lock.add_rule(act, added);
         }
         _ => {}
     }
@@ -89,7 +89,7 @@ pub(crate) fn add_change(lowest: &mut Lowest, act: u8, reaction: u8, added: Chan
 {
     match lowest {
         Lowest::Facts(lock) => {
-            lock.add_change(act, reaction, added);
+            let _ = lock.add_change(act, reaction, added);
         }
         _ => {}
     }
@@ -112,7 +112,7 @@ pub(crate) fn add_move(lowest: &mut Lowest, from: u16, act: u8, reaction: u8, af
 {
     match lowest {
         Lowest::Listed(lock) => {
-            lock.add_move(from as u32, act, reaction, after as u32);
+            let _ = lock.add_move(from as u32, act, reaction, after as u32);
         }
         _ => {}
     }

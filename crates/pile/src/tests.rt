@@ -1,5 +1,5 @@
-use crate::live::LiveLowest;
-use crate::pile::Pile;
+use crate::live::{LiveLowest, empty_live};
+use crate::pile::pile_over;
 use locks::allowance::Allowance;
 use locks::lock::{LiveLock, Lock};
 use locks::marks::Marks;
@@ -25,9 +25,10 @@ fn clock(rt: &impl Abort, heap: Global) -> Result<LiveLowest, Fail> {
     let Ok(mut lock) = FactLock::new(heap, 2, 2, 0) else {
         return Err(Fail::new("no lock"));
     };
-    assert!(rt; lock.add_rule(0, UNTIL_SHUT) && lock.add_rule(1, UNTIL_SHUT));
-    assert!(rt; lock.add_change(0, 0, setting(1)) && lock.add_change(0, 1, setting(0)));
-    assert!(rt; lock.add_change(1, 0, setting(2)));
+    assert!(rt; lock.add_rule(0, UNTIL_SHUT).is_ok() && lock.add_rule(1, UNTIL_SHUT).is_ok());
+    assert!(rt; lock.add_change(0, 0, setting(1)).is_ok());
+    assert!(rt; lock.add_change(0, 1, setting(0)).is_ok());
+    assert!(rt; lock.add_change(1, 0, setting(2)).is_ok());
     let Ok(live) = LiveLowest::new(Lowest::Facts(lock)) else {
         return Err(Fail::new("not live"));
     };
@@ -39,7 +40,7 @@ fn a_mark_is_borne_once(rt: HostRuntime) -> Result<(), Fail> {
     let live = clock(&rt, rt.alloc())?;
     let mut marks = Marks::none();
     assert!(rt; marks.add(0, 1));
-    let Ok(pile) = Pile::new(live, marks, 1) else {
+    let Ok(pile) = pile_over(live, marks, 1) else {
         return Err(Fail::new("refused"));
     };
     assert_eq!(rt; pile.states(), 8);
@@ -73,6 +74,6 @@ fn a_layer_of_a_layer_is_a_lock(rt: HostRuntime) -> Result<(), Fail> {
 
 #[test]
 fn an_allowance_above_seven_is_refused(rt: HostRuntime) {
-    assert!(rt; Pile::new(LiveLowest::empty(), Marks::none(), 8).is_err());
-    assert!(rt; Pile::new(LiveLowest::empty(), Marks::none(), 7).is_ok());
+    assert!(rt; pile_over(empty_live(), Marks::none(), 8).is_err());
+    assert!(rt; pile_over(empty_live(), Marks::none(), 7).is_ok());
 }

@@ -7,7 +7,7 @@ ghost use Rattle.jobfile.specs.Held.{Blank, read_line};
 use super::JobFile;
 use locks::lock::Lock;
 use locks::marks::Marks;
-use pile::pile::Pile;
+use pile::pile::{Pile, empty_pile};
 use routine::routine::Routine;
 use std::alloc::{AllocError, Global};
 use words::names::Names;
@@ -18,7 +18,7 @@ impl JobFile {
         ensures { Blank result }
     {
         JobFile {
-            lock: Pile::empty(),
+            lock: empty_pile(),
             facts: Names::new(heap),
             acts: Names::new(heap),
             marks: Marks::none(),

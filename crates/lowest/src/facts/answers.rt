@@ -2,7 +2,7 @@ ghost use Rattle.lowest.specs.FactViews.{fact_lock};
 ghost use Rattle.lowest.specs.FactLaws.{fact_lock_lawful};
 
 use super::FactLock;
-use crate::bits::{has_bit, meets, rewrite, valuations};
+use locks::facts::holds;
 use locks::lock::{Lock, REACTIONS};
 
 impl Lock for FactLock {
@@ -11,11 +11,11 @@ impl Lock for FactLock {
     ghost lawful = { fact_lock_lawful };
 
     fn states(&self) -> u32 {
-        valuations(self.facts)
+        self.facts.valuations()
     }
 
     fn facts(&self) -> u8 {
-        self.facts
+        self.facts.get()
     }
 
     fn acts(&self) -> u8 {
@@ -27,36 +27,27 @@ impl Lock for FactLock {
     }
 
     fn holds(&self, state: u32, fact: u8) -> bool {
-        state < valuations(self.facts) && fact < self.facts && has_bit(state, fact)
+        state < self.states() && fact < self.facts.get() && holds(state, fact)
     }
 
     fn allowed(&self, state: u32, act: u8) -> bool {
-        if state >= valuations(self.facts) || act >= self.acts {
-            return false;
-        }
-        match self.rule(act) {
-            Some(rule) => meets(state, rule.need, rule.lack),
-            None => false,
-        }
+        state < self.states()
+            && act < self.acts
+            && self.rule(act).is_some_and(|rule| rule.is_met(state))
     }
 
     fn possible(&self, state: u32, act: u8, reaction: u8) -> bool {
-        if reaction >= REACTIONS || !self.allowed(state, act) {
-            return false;
-        }
-        match self.change(act, reaction) {
-            Some(change) => meets(state, change.need, change.lack),
-            None => false,
-        }
+        self.allowed(state, act)
+            && reaction < REACTIONS
+            && self
+                .change(act, reaction)
+                .is_some_and(|change| change.is_met(state))
     }
 
     fn after(&self, state: u32, act: u8, reaction: u8) -> u32 {
-        if !self.possible(state, act, reaction) {
-            return 0;
-        }
         match self.change(act, reaction) {
-            Some(change) => rewrite(state, change.clear, change.set),
-            None => 0,
+            Some(change) if self.possible(state, act, reaction) => change.applied(state),
+            _ => 0,
         }
     }
 }

@@ -5,7 +5,7 @@ ghost use Rattle.lowest.specs.ListedViews.{listed_lock, listed_moves, listed_val
 ghost use Rattle.lowest.specs.ListedLaws.{listed_lock_lawful};
 
 use super::ListedLock;
-use crate::bits::has_bit;
+use locks::facts::holds;
 use locks::lock::{Lock, REACTIONS};
 
 impl ListedLock {
@@ -13,23 +13,14 @@ impl ListedLock {
     fn valuation(&self, state: u32) -> u16
         ensures { result ≡ valuation_in (listed_valuations self.now) state }
     {
-        if state < self.listed() {
-            self.valuations[state as usize]
-        } else {
-            0
-        }
+        self.valuations.get(state as usize).copied().unwrap_or(0)
     }
 
     // Whether the act has a move in the state.
     fn has_move(&self, state: u32, act: u8) -> bool
         ensures { result ≡ any_below reactions (λ e. is_some (move_in self.now.acts (listed_moves self.now) state act e)) }
     {
-        for reaction in 0..REACTIONS {
-            if self.move_to(state, act, reaction).is_some() {
-                return true;
-            }
-        }
-        false
+        (0..REACTIONS).any(|reaction| self.move_to(state, act, reaction).is_some())
     }
 }
 
@@ -43,7 +34,7 @@ impl Lock for ListedLock {
     }
 
     fn facts(&self) -> u8 {
-        self.facts
+        self.facts.get()
     }
 
     fn acts(&self) -> u8 {
@@ -55,7 +46,9 @@ impl Lock for ListedLock {
     }
 
     fn holds(&self, state: u32, fact: u8) -> bool {
-        state < self.states && fact < self.facts && has_bit(self.valuation(state) as u32, fact)
+        state < self.states
+            && fact < self.facts.get()
+            && holds(u32::from(self.valuation(state)), fact)
     }
 
     fn allowed(&self, state: u32, act: u8) -> bool {
@@ -70,9 +63,10 @@ impl Lock for ListedLock {
     }
 
     fn after(&self, state: u32, act: u8, reaction: u8) -> u32 {
-        if !self.possible(state, act, reaction) {
-            return 0;
+        if self.possible(state, act, reaction) {
+            self.move_to(state, act, reaction).unwrap_or(0)
+        } else {
+            0
         }
-        self.move_to(state, act, reaction).unwrap_or(0)
     }
 }

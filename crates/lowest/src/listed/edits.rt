@@ -1,31 +1,21 @@
-ghost use Rattle.std.specs.Prelude.{◌≡◌, ◌+◌, ◌*◌, ◌<◌, true, false, not, ◌&&◌, [], ◌∷◌, ◌++◌, length, is_ok, if◌then◌else◌, Some, MatchResult, slice_set};
+ghost use Rattle.std.specs.Prelude.{◌≡◌, ◌+◌, ◌*◌, ◌<◌, true, false, not, ◌&&◌, [], ◌∷◌, ◌++◌, length, is_ok, if◌then◌else◌, Some, MatchResult, IfErr, slice_set};
 ghost use Rattle.lowest.specs.Listed.{move_place, move_in, listed_range};
-ghost use Rattle.lowest.specs.ListedViews.{listed_valuations, listed_moves, listable, move_fits, SameNumbers, FreshListed};
+ghost use Rattle.lowest.specs.ListedViews.{listed_valuations, listed_moves, listable, move_fits, move_within, SameNumbers, FreshListed};
 
 use super::{ListedLock, MOST_LISTED};
-use crate::bits::is_short;
-use crate::table::{at, blank};
+use crate::counts::counted;
+use crate::refused::Refused;
+use crate::table::at;
 use crate::unmade::Unmade;
-use locks::lock::{MOST_ACTS, MOST_FACTS, REACTIONS};
+use locks::lock::REACTIONS;
 use std::alloc::Global;
-
-fn in_range(facts: u8, acts: u8, first: u32, states: u32) -> bool
-    ensures { result ≡ listed_range facts acts first states }
-{
-    1 <= facts
-        && facts <= MOST_FACTS
-        && 1 <= acts
-        && acts <= MOST_ACTS
-        && 1 <= states
-        && states <= MOST_LISTED
-        && first < states
-}
 
 // Where the move of the state, the act and the reaction stands.
 fn place(acts: u8, state: u32, act: u8, reaction: u8) -> usize
     ensures { result ≡ move_place acts state act reaction }
 {
-    (state as usize * acts as usize + act as usize) * REACTIONS as usize + reaction as usize
+    (state as usize * usize::from(acts) + usize::from(act)) * usize::from(REACTIONS)
+        + usize::from(reaction)
 }
 
 impl ListedLock {
@@ -39,17 +29,18 @@ impl ListedLock {
     ) -> Result<ListedLock, Unmade>
         ensures { MatchResult result (λ l. (listed_range facts acts first states ≡ true) × FreshListed facts acts first states l) (λ e. e ≡ (if listed_range facts acts first states then Unmade.Memory else Unmade.Range)) }
     {
-        if !in_range(facts, acts, first, states) {
+        let facts = counted(facts, acts).ok_or(Unmade::Range)?;
+        if !(1..=MOST_LISTED).contains(&states) || first >= states {
             return Err(Unmade::Range);
         }
-        let moves = blank(heap, states as usize * acts as usize * REACTIONS as usize)?;
-        let valuations = Vec::new(heap);
+        let places = states as usize * usize::from(acts) * usize::from(REACTIONS);
+        let moves = vec![in heap; None; places]?;
         Ok(ListedLock {
             facts,
             acts,
             first,
             states,
-            valuations,
+            valuations: Vec::new(heap),
             moves,
         })
     }
@@ -68,13 +59,10 @@ impl ListedLock {
         ensures moves { listed_moves self.new ≡ listed_moves self.old }
         ensures rest { SameNumbers self.old self.new }
     {
-        if self.listed() >= self.states || !is_short(self.facts, valuation) {
+        if self.listed() >= self.states || !self.facts.covers(valuation) {
             return Err(Unmade::Range);
         }
-        match self.valuations.push(valuation) {
-            Ok(()) => Ok(()),
-            Err(_) => Err(Unmade::Memory),
-        }
+        self.valuations.push(valuation).map_err(|_| Unmade::Memory)
     }
 
     // The state after the reaction, if it has a move.
@@ -84,33 +72,31 @@ impl ListedLock {
         if act >= self.acts || reaction >= REACTIONS {
             return None;
         }
-        match at(&self.moves, place(self.acts, state, act, reaction)) {
-            Some(after) => Some(after as u32),
-            None => None,
-        }
+        at(&self.moves, place(self.acts, state, act, reaction)).map(u32::from)
     }
 
-    // Gives the state, the act and the reaction their move; false, and nothing changed, if a number is out of range
-    // or they have one.
-    pub fn add_move(&mut self, state: u32, act: u8, reaction: u8, after: u32) -> bool
-        ensures answer { result ≡ move_fits self.old state act reaction after }
-        ensures moves { listed_moves self.new ≡ (if result then slice_set (listed_moves self.old) (move_place self.old.acts state act reaction) (Some after) else listed_moves self.old) }
+    // Gives the state, the act and the reaction their move. Refused, and nothing changed, if a number is out of range,
+    // and else if they have one.
+    pub fn add_move(&mut self, state: u32, act: u8, reaction: u8, after: u32) -> Result<(), Refused>
+        ensures answer { is_ok result ≡ move_fits self.old state act reaction after }
+        ensures ground { IfErr result (λ e. e ≡ (if move_within self.old state act reaction after then Refused.Taken else Refused.Range)) }
+        ensures moves { listed_moves self.new ≡ (if is_ok result then slice_set (listed_moves self.old) (move_place self.old.acts state act reaction) (Some after) else listed_moves self.old) }
         ensures valuations { listed_valuations self.new ≡ listed_valuations self.old }
         ensures rest { SameNumbers self.old self.new }
-        ensures kept { result ≡ false → self.new ≡ self.old }
+        ensures kept { is_ok result ≡ false → self.new ≡ self.old }
     {
         if state >= self.states
             || act >= self.acts
             || reaction >= REACTIONS
             || after >= self.states
         {
-            return false;
+            return Err(Refused::Range);
         }
         if self.move_to(state, act, reaction).is_some() {
-            return false;
+            return Err(Refused::Taken);
         }
         let place = place(self.acts, state, act, reaction);
         self.moves[place] = Some(after as u16);
-        true
+        Ok(())
     }
 }

@@ -8,7 +8,7 @@ use super::super::low;
 use super::super::model::Model;
 use super::Draft;
 use pile::live::LiveLowest;
-use pile::pile::Pile;
+use pile::pile::pile_over;
 
 impl<'a> Draft<'a> {
     // Whether a record that each file has never came.
@@ -42,7 +42,7 @@ impl<'a> Draft<'a> {
         };
         let most = allowance.unwrap_or(0);
         let live = LiveLowest::new(lowest)?;
-        let lock = Pile::new(live, marks, most)?;
+        let lock = pile_over(live, marks, most)?;
         Ok(Model {
             lock,
             facts,

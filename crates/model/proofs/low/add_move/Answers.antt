@@ -1,4 +1,4 @@
-use Rattle.std.proofs.Common.{◌≡◌, ◌<◌, true, length, set, Some, ◌∙◌, subst, ap₂, arith, rules}
+use Rattle.std.proofs.Common.{◌≡◌, ◌<◌, true, is_ok, length, set, Some, ◌∙◌, subst, ap₂, arith, rules}
 use Rattle.lowest.specs.Listed.{move_place, move_in}
 use Rattle.lowest.specs.ListedViews.{listed_moves}
 use Rattle.model.specs.Stands.{LowestStands, ListedStand}
@@ -13,7 +13,7 @@ returns-in-Listed c = λ h k s f.
     let hs : c.args.from < old.states = search rules in
     let ha : c.args.act < old.acts = search rules in
     let he : c.args.reaction < 8 = search rules in
-    let ok : c.add_move.result ≡ true = search rules in
+    let ok : is_ok c.add_move.result ≡ true = search rules in
     let ms : listed_moves new ≡ set (listed_moves old) (move_place old.acts c.args.from c.args.act c.args.reaction) (Some c.args.after) = search rules in
     let within : move_place old.acts c.args.from c.args.act c.args.reaction < length (listed_moves old) = omega (arith, place_within old.acts old.states c.args.from c.args.act c.args.reaction hs ha he, old.sizes.1, old.moves.ok.0) in
     record {

@@ -14,19 +14,19 @@ pub returns-in_err-lock : goal.returns-in_err-lock
 returns-in_err-lock c = λ k s.
     let p = err_from_is_err_and c.from_residual-in_err-lock.result c.from_residual-in_err-lock.ensures.1 in
     let live = c.in_ok-live.live in
-    let st : LowestStands live.lowest c.args.self.head k = subst (λ l. LowestStands l c.args.self.head k) (sym c.in_ok-live.ensures) s.lowest in
+    let st : LowestStands live.lower c.args.self.head k = subst (λ l. LowestStands l c.args.self.head k) (sym c.in_ok-live.ensures) s.lowest in
     let most = c.unwrap_or-most.ensures ∙ (ap (λ o. unwrap_or o 0) s.allowance ∙ first_or_none k) in
-    rw (p.1, p.2) (ends_layer live.lowest c.args.self.head k c.args.length st (sym (c.if-lacks.ensures k s)) live.live c.unwrap_or-most.result most _ c.in_err-lock.ensures)
+    rw (p.1, p.2) (ends_layer live.lower c.args.self.head k c.args.length st (sym (c.if-lacks.ensures k s)) live.live c.unwrap_or-most.result most _ c.in_err-lock.ensures)
 
 pub returns : goal.returns
 returns c = λ k s.
     let live = c.in_ok-live.live in
-    let st : LowestStands live.lowest c.args.self.head k = subst (λ l. LowestStands l c.args.self.head k) (sym c.in_ok-live.ensures) s.lowest in
+    let st : LowestStands live.lower c.args.self.head k = subst (λ l. LowestStands l c.args.self.head k) (sym c.in_ok-live.ensures) s.lowest in
     let most = c.unwrap_or-most.ensures ∙ (ap (λ o. unwrap_or o 0) s.allowance ∙ first_or_none k) in
     let there = sym (c.if-lacks.ensures k s) in (
-      ends_well live.lowest c.args.self.head k c.args.length st there live.live c.unwrap_or-most.result most c.in_ok-lock.ensures.0,
+      ends_well live.lower c.args.self.head k c.args.length st there live.live c.unwrap_or-most.result most c.in_ok-lock.ensures.0,
       record {
-        lock = c.in_ok-lock.ensures.1 ∙ pile_is_said live.lowest c.args.self.head k c.args.length st there c.args.self.marks s.marks c.unwrap_or-most.result most;
+        lock = c.in_ok-lock.ensures.1 ∙ pile_is_said live.lower c.args.self.head k c.args.length st there c.args.self.marks s.marks c.unwrap_or-most.result most;
         facts = s.facts;
         acts = s.acts;
         marks = s.marks;
