@@ -1,5 +1,6 @@
 -- Words and names: when two words are the same, which words are reserved, and what a name is.
 use Rattle.std.specs.Prelude.{ℕ, suc, ◌+◌, Bool, true, false, not, ◌&&◌, ◌||◌, List, [], ◌∷◌, length, Some, None, codes, Option, ◌==◌, nat_le, slice_index}
+use Rattle.std.specs.List.{list_any, list_all}
 
 -- two words are the same if they have the same letters in the same order; capital letters count
 abbrev pub same_word : List ℕ → List ℕ → Bool
@@ -10,8 +11,7 @@ same_word (x ∷ xs) (y ∷ ys) = x == y && same_word xs ys
 
 -- whether a word is the same as one of the list
 abbrev pub among : List ℕ → List (List ℕ) → Bool
-among w [] = false
-among w (v ∷ vs) = same_word w v || among w vs
+among w vs = list_any (same_word w) vs
 
 -- the place of the first entry of a list that is the same word
 abbrev pub one_on : Option ℕ → Option ℕ
@@ -43,12 +43,16 @@ abbrev pub is_name_byte : ℕ → Bool
 is_name_byte b = is_letter b || (nat_le 48 b && nat_le b 57 || b == 95)
 
 abbrev pub all_name_bytes : List ℕ → Bool
-all_name_bytes [] = true
-all_name_bytes (b ∷ bs) = is_name_byte b && all_name_bytes bs
+all_name_bytes w = list_all is_name_byte w
 
 -- the longest name
 abbrev pub most_letters : ℕ
 most_letters = 24
+
+-- a letter at the front, and no more bytes than a name may have
+abbrev pub name_shaped : List ℕ → Bool
+name_shaped [] = false
+name_shaped (b ∷ bs) = is_letter b && nat_le (suc (length bs)) most_letters
 
 -- a letter, then letters, digits or underscores, 1 to 24 bytes in all, and no reserved word
 abbrev pub is_name : List ℕ → Bool

@@ -1,80 +1,67 @@
 // Words and names: what names in a job file and words of a routine have in common.
 #![tactic(auto)]
 
-ghost use Rattle.std.specs.Prelude.{◌≡◌, ℕ, ◌+◌, ◌*◌, ◌<◌, ◌≤◌, Bool, true, false, ◌&&◌, length};
-ghost use Rattle.words.specs.Names.{same_word, is_reserved, is_letter, is_name_byte, all_name_bytes, is_name};
+ghost use Rattle.std.specs.Prelude.{◌≡◌};
+ghost use Rattle.words.specs.Names.{same_word, is_reserved, is_letter, is_name_byte, all_name_bytes, name_shaped, is_name};
 
 pub mod names;
 
 // The longest name.
-const MOST_LETTERS: usize = 24;
+pub const MOST_LETTERS: usize = 24;
+
+// The words of the language of routines, which are no names.
+const RESERVED: [&[u8]; 13] = [
+    b"if", b"then", b"else", b"fi", b"while", b"do", b"od", b"nil", b"and", b"or", b"not", b"true",
+    b"false",
+];
 
 // Whether two words are the same.
 pub fn same_word(one: &[u8], other: &[u8]) -> bool
     ensures { result ≡ same_word one.now other.now }
 {
-    if one.len() != other.len() {
-        return false;
-    }
-    for i in 0..one.len() {
-        if one[i] != other[i] {
-            return false;
-        }
-    }
-    true
+    one == other
 }
 
 // Whether a word belongs to the language of routines.
 pub fn is_reserved(word: &[u8]) -> bool
     ensures { result ≡ is_reserved word.now }
 {
-    same_word(word, b"if")
-        || same_word(word, b"then")
-        || same_word(word, b"else")
-        || same_word(word, b"fi")
-        || same_word(word, b"while")
-        || same_word(word, b"do")
-        || same_word(word, b"od")
-        || same_word(word, b"nil")
-        || same_word(word, b"and")
-        || same_word(word, b"or")
-        || same_word(word, b"not")
-        || same_word(word, b"true")
-        || same_word(word, b"false")
+    RESERVED.iter().any(|reserved| same_word(word, reserved))
 }
 
 // Whether the byte is an ASCII letter.
 pub fn is_letter(b: u8) -> bool
     ensures { result ≡ is_letter b }
 {
-    matches!(b as char, 'a'..='z' | 'A'..='Z')
+    b.is_ascii_alphabetic()
 }
 
 // Whether the byte may stand inside a name.
 pub fn is_name_byte(b: u8) -> bool
     ensures { result ≡ is_name_byte b }
 {
-    is_letter(b) || matches!(b as char, '0'..='9' | '_')
+    b.is_ascii_alphanumeric() || b == b'_'
 }
 
 fn all_name_bytes(word: &[u8]) -> bool
     ensures { result ≡ all_name_bytes word.now }
 {
-    for b in word {
-        if !is_name_byte(*b) {
-            return false;
-        }
-    }
-    true
+    word.iter().all(|b| is_name_byte(*b))
 }
 
 // Whether the bytes are a name: a letter, then letters, digits or underscores, 1 to 24 in all, and no reserved word.
 pub fn is_name(word: &[u8]) -> bool
     ensures { result ≡ is_name word.now }
 {
-    let n = word.len();
-    if n < 1 || n > MOST_LETTERS {
-        return false;
+    is_name_shaped(word) && all_name_bytes(word) && !is_reserved(word)
+}
+
+// Whether the word begins with a letter and is no longer than a name.
+pub fn is_name_shaped(word: &[u8]) -> bool
+    ensures { result ≡ name_shaped word.now }
+{
+    match word {
+        [first, ..] => is_letter(*first) && word.len() <= MOST_LETTERS,
+        [] => false,
     }
-    is_letter(word[0]) && all_name_bytes(word) && !is_reserved(word)
 }

@@ -23,41 +23,31 @@ impl Names {
     pub fn count(&self) -> usize
         ensures { result ≡ length (name_list self.now) }
     {
-        self.list.as_slice().len()
+        self.list.len()
     }
 
     pub fn get(&self, number: usize) -> Option<&[u8]>
         ensures { MatchOption result (length (name_list self.now) ≤ number) (λ w. (number < length (name_list self.now)) × (w.now ≡ slice_index_or (name_list self.now) number [])) }
     {
-        if number < self.list.len() {
-            Some(self.list[number].as_slice())
-        } else {
-            None
-        }
+        self.list.get(number).map(|name| name.as_slice())
     }
 
     // Whether one of the names is this word.
     pub fn has(&self, word: &[u8]) -> bool
         ensures { result ≡ among word.now (name_list self.now) }
     {
-        for name in self.list.iter() {
-            if same_word(word, name.as_slice()) {
-                return true;
-            }
-        }
-        false
+        self.list
+            .iter()
+            .any(|name| same_word(word, name.as_slice()))
     }
 
     // The number of the first name that is this word.
     pub fn find(&self, word: &[u8]) -> Option<usize>
         ensures { result ≡ position (name_list self.now) word.now }
     {
-        for (i, name) in self.list.iter().enumerate() {
-            if same_word(name.as_slice(), word) {
-                return Some(i);
-            }
-        }
-        None
+        self.list
+            .iter()
+            .position(|name| same_word(name.as_slice(), word))
     }
 
     // One name more, behind the others; where memory is wanting the names stay as they were.

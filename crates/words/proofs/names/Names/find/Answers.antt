@@ -1,30 +1,16 @@
-use Rattle.std.proofs.Common.{◌<◌, ◌≤◌, map, length, get_or, vec_items, sym, ap, ◌∙◌, subst}
-use Rattle.words.specs.Names.{same_word, position}
-use Rattle.words.proofs.Listing.{place_start, place_found, place_further, place_none}
+use Rattle.std.proofs.Common.{◌∙◌, ap, vec_items, rules, tests}
+use Rattle.std.proofs.lemmas.Iterator.{YieldsList-from_slice}
+use Rattle.std.proofs.lemmas.Iterator.Search.{position_from_yields_List}
+use Rattle.std.specs.List.{position_from}
+use Rattle.std.proofs.lemmas.Iterator.Adapters.{position_from-zero}
+use Rattle.words.specs.Names.{same_word}
+use Rattle.words.proofs.Listing.{position_whole}
 use Rattle.words.proofs.names.Names.find.Goals as goal
-
-pub loop-i-init : goal.loop-i-init
-loop-i-init c = place_start (position (map vec_items (vec_items c.args.self.now.list)) c.args.word.now)
-
-pub returns-then-same_word : goal.returns-then-same_word
-returns-then-same_word c =
-    let vs = vec_items c.args.self.now.list in
-    let e = c.deref-name-items.ensures.value in
-    let h : c.loop-i.i < length vs = subst (λ l. c.loop-i.i < length l) e c.loop-i-test.true in
-    place_found vec_items vs c.args.word.now c.loop-i.i c.loop-i.invariant c.name-item.result h
-    (c.name-item.is ∙ ap (λ l. get_or l c.loop-i.i c.name-item.result) e)
-    (ap (λ v. same_word v c.args.word.now) (sym c.as_slice.ensures.value) ∙ sym c.if-same_word.ensures)
-
-pub loop-i-preserved : goal.loop-i-preserved
-loop-i-preserved c =
-    let vs = vec_items c.args.self.now.list in
-    let e = c.deref-name-items.ensures.value in
-    let h : c.loop-i.i < length vs = subst (λ l. c.loop-i.i < length l) e c.loop-i-test.true in
-    place_further vec_items vs c.args.word.now c.loop-i.i c.loop-i.invariant c.name-item.result h
-    (c.name-item.is ∙ ap (λ l. get_or l c.loop-i.i c.name-item.result) e)
-    (ap (λ v. same_word v c.args.word.now) (sym c.as_slice.ensures.value) ∙ sym c.if-same_word.ensures)
 
 pub returns : goal.returns
 returns c =
-    place_none vec_items (vec_items c.args.self.now.list) c.args.word.now c.loop-i.i c.loop-i.invariant
-    (subst (λ l. length l ≤ c.loop-i.i) c.deref-name-items.ensures.value c.loop-i-test.false)
+    position_from_yields_List (λ x. same_word (vec_items x) c.args.word.now) _ _ _ c.position.ensures.ran (YieldsList-from_slice _ c.iter.ensures.rest)
+    (λ x b q k. search (rules, tests))
+    ∙ (position_from-zero (λ x. same_word (vec_items x) c.args.word.now) c.deref.result.now
+    ∙ (ap (position_from (λ x. same_word (vec_items x) c.args.word.now) 0) c.deref.ensures.value
+    ∙ position_whole vec_items c.args.word.now (vec_items c.args.self.now.list)))

@@ -1,27 +1,13 @@
-use Rattle.std.proofs.Common.{◌<◌, ◌≤◌, length, get_or, vec_items, sym, ap, ◌∙◌, subst}
+use Rattle.std.proofs.Common.{◌∙◌, ap, vec_items, rules, tests}
+use Rattle.std.proofs.lemmas.Iterator.{YieldsList-from_slice}
+use Rattle.std.proofs.lemmas.Iterator.Search.{any_from_yields_List}
+use Rattle.std.specs.List.{list_any}
 use Rattle.words.specs.Names.{same_word}
-use Rattle.words.proofs.Listing.{found, other, not_found}
+use Rattle.words.proofs.Listing.{list_any_of_map}
 use Rattle.words.proofs.names.Names.has.Goals as goal
-
-pub returns-then-same_word : goal.returns-then-same_word
-returns-then-same_word c =
-    let vs = vec_items c.args.self.now.list in
-    let e = c.deref-name-items.ensures.value in
-    let h : c.loop-name.name-index < length vs = subst (λ l. c.loop-name.name-index < length l) e c.loop-name-test.true in
-    found vec_items vs c.args.word.now c.loop-name.name-index c.loop-name.invariant c.name-item.result h
-    (c.name-item.is ∙ ap (λ l. get_or l c.loop-name.name-index c.name-item.result) e)
-    (ap (same_word c.args.word.now) (sym c.as_slice.ensures.value) ∙ sym c.if-same_word.ensures)
-
-pub loop-name-preserved : goal.loop-name-preserved
-loop-name-preserved c =
-    let vs = vec_items c.args.self.now.list in
-    let e = c.deref-name-items.ensures.value in
-    let h : c.loop-name.name-index < length vs = subst (λ l. c.loop-name.name-index < length l) e c.loop-name-test.true in
-    other vec_items vs c.args.word.now c.loop-name.name-index c.loop-name.invariant c.name-item.result h
-    (c.name-item.is ∙ ap (λ l. get_or l c.loop-name.name-index c.name-item.result) e)
-    (ap (same_word c.args.word.now) (sym c.as_slice.ensures.value) ∙ sym c.if-same_word.ensures)
 
 pub returns : goal.returns
 returns c =
-    not_found vec_items (vec_items c.args.self.now.list) c.args.word.now c.loop-name.name-index c.loop-name.invariant
-    (subst (λ l. length l ≤ c.loop-name.name-index) c.deref-name-items.ensures.value c.loop-name-test.false)
+    any_from_yields_List (λ x. same_word c.args.word.now (vec_items x)) _ _ _ c.any.ensures.ran (YieldsList-from_slice _ c.iter.ensures.rest)
+    (λ x b q k. search (rules, tests))
+    ∙ (ap (list_any (λ x. same_word c.args.word.now (vec_items x))) c.deref.ensures.value ∙ list_any_of_map vec_items (same_word c.args.word.now) (vec_items c.args.self.now.list))
