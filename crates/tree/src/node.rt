@@ -1,3 +1,6 @@
+// Indices into tables, and no boxes: it is a rule of the project that a condition is evaluated in its table, by parts that stand below,
+// and a routine keeps a row for each entry, for which boxes would want a second tree of the same shape.
+
 // An entry of a table of conditions; its parts are entries below it.
 #[derive(Clone, Copy)]
 pub enum Clause {

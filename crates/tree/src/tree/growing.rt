@@ -1,13 +1,14 @@
-ghost use Rattle.std.specs.Prelude.{◌≡◌, ℕ, ◌+◌, ◌<◌, ◌≤◌, true, false, ◌&&◌, [], ◌∷◌, ◌++◌, length, IfErr, MatchOption, MatchResult, slice_index_or};
+ghost use Rattle.std.specs.Prelude.{◌≡◌, ℕ, ◌+◌, ◌<◌, ◌≤◌, true, false, ◌&&◌, [], ◌∷◌, ◌++◌, length, is_ok, if◌then◌else◌, IfOk, IfErr, MatchOption, MatchResult, slice_index_or};
 ghost use Rattle.golog.specs.Programs.{eval, Valuation};
 ghost use Rattle.golog.specs.Points.{valuation};
 ghost use Rattle.tree.specs.Trees.{cond_lower, prog_lower};
 ghost use Rattle.tree.specs.Added.{unadded};
+ghost use Rattle.tree.specs.declared.tree.growing.Unadded.TheVariants.{Memory};
 ghost use Rattle.tree.specs.Held.{clauses, nodes, cond_at, prog_at};
 
 use super::Tree;
 use crate::node::{Clause, Node};
-use std::alloc::Global;
+use std::alloc::{AllocFailed, Global};
 
 // Why an entry is not added: a part of it is no entry, the table is full, or no memory.
 #[derive(Clone, Copy)]
@@ -15,6 +16,14 @@ pub enum Unadded {
     Part,
     Full,
     Memory,
+}
+
+impl<T: Drop> From<AllocFailed<T>> for Unadded {
+    ghost from_gives = { λ _ r. r ≡ Memory };
+
+    fn from(_e: AllocFailed<T>) -> Unadded {
+        Unadded::Memory
+    }
 }
 
 // The most entries of a table.
@@ -41,6 +50,20 @@ fn node_is_lower(node: Node, conds: usize, n: usize) -> bool
     }
 }
 
+// One entry more, if there is room; its number.
+fn push<T: Drop>(table: &mut Vec<T>, entry: T) -> Result<u16, Unadded>
+    ensures table { table.new.items ≡ (if is_ok result then table.old.items ++ entry ∷ [] else table.old.items) }
+    ensures number { IfOk result (λ i. i ≡ length table.old.items) }
+    ensures refusal { IfErr result (λ u. u ≡ unadded true (length table.old.items)) }
+{
+    let n = table.len();
+    if n >= MOST {
+        return Err(Unadded::Full);
+    }
+    table.push(entry)?;
+    Ok(n as u16)
+}
+
 impl Tree {
     pub fn new(heap: Global) -> Tree
         ensures clauses { clauses result ≡ [] }
@@ -55,21 +78,13 @@ impl Tree {
     pub fn clause(&self, i: u16) -> Option<Clause>
         ensures { MatchOption result (length (clauses self.now) ≤ i) (λ c. (i < length (clauses self.now)) × (c ≡ slice_index_or (clauses self.now) i Clause.True)) }
     {
-        if (i as usize) < self.clauses.len() {
-            Some(self.clauses[i as usize])
-        } else {
-            None
-        }
+        self.clauses.get(i as usize).copied()
     }
 
     pub fn node(&self, i: u16) -> Option<Node>
         ensures { MatchOption result (length (nodes self.now) ≤ i) (λ n. (i < length (nodes self.now)) × (n ≡ slice_index_or (nodes self.now) i (Node.Act 0))) }
     {
-        if (i as usize) < self.nodes.len() {
-            Some(self.nodes[i as usize])
-        } else {
-            None
-        }
+        self.nodes.get(i as usize).copied()
     }
 
     // One condition more, of parts that are there; its number.
@@ -78,17 +93,10 @@ impl Tree {
         ensures clauses { MatchResult result (λ i. (i ≡ length (clauses self.old)) × (cond_lower i clause ≡ true) × (clauses self.new ≡ clauses self.old ++ clause ∷ [])) (λ _. clauses self.new ≡ clauses self.old) }
         ensures refusal { IfErr result (λ u. u ≡ unadded (cond_lower (length (clauses self.old)) clause) (length (clauses self.old))) }
     {
-        let n = self.clauses.len();
-        if !clause_is_lower(clause, n) {
+        if !clause_is_lower(clause, self.clauses.len()) {
             return Err(Unadded::Part);
         }
-        if n >= MOST {
-            return Err(Unadded::Full);
-        }
-        match self.clauses.push(clause) {
-            Ok(()) => Ok(n as u16),
-            Err(_) => Err(Unadded::Memory),
-        }
+        push(&mut self.clauses, clause)
     }
 
     // One program more, of parts that are there; its number.
@@ -97,16 +105,9 @@ impl Tree {
         ensures nodes { MatchResult result (λ i. (i ≡ length (nodes self.old)) × (prog_lower (length (clauses self.old)) i node ≡ true) × (nodes self.new ≡ nodes self.old ++ node ∷ [])) (λ _. nodes self.new ≡ nodes self.old) }
         ensures refusal { IfErr result (λ u. u ≡ unadded (prog_lower (length (clauses self.old)) (length (nodes self.old)) node) (length (nodes self.old))) }
     {
-        let n = self.nodes.len();
-        if !node_is_lower(node, self.clauses.len(), n) {
+        if !node_is_lower(node, self.clauses.len(), self.nodes.len()) {
             return Err(Unadded::Part);
         }
-        if n >= MOST {
-            return Err(Unadded::Full);
-        }
-        match self.nodes.push(node) {
-            Ok(()) => Ok(n as u16),
-            Err(_) => Err(Unadded::Memory),
-        }
+        push(&mut self.nodes, node)
     }
 }
