@@ -1,6 +1,10 @@
 -- The kinds of records: their numbers, the order of their groups, the form of lock that has them, their lengths.
-use Rattle.std.specs.Prelude.{ℕ, Bool, true, cond, Some, None, Option, ◌==◌, nat_le}
+use Rattle.std.specs.Prelude.{◌≡◌, ℕ, Bool, true, cond, Some, None, MatchResult, Option, Result, ◌==◌, nat_le}
 use Rattle.items.specs.declared.kind.Kind.{Kind}
+use Rattle.items.specs.declared.kind.UnknownKind.{UnknownKind}
+use Rattle.items.specs.declared.kind.Form.{Form}
+use Rattle.items.specs.declared.kind.Form.TheVariants.{Facts, Listed}
+use Rattle.items.specs.declared.kind.UnknownForm.{UnknownForm}
 use Rattle.items.specs.declared.kind.Kind.TheVariants.{Head, Fact, Act, Rule, Change, State, Move, Mark, Allowance, Routine}
 
 abbrev pub kind_number : Kind → ℕ
@@ -22,6 +26,16 @@ kind_of n =
     (cond (n == 0x0010) (Some Rule) (cond (n == 0x0011) (Some Change) (cond (n == 0x0020) (Some State)
     (cond (n == 0x0021) (Some Move) (cond (n == 0x0031) (Some Mark) (cond (n == 0x0032) (Some Allowance)
     (cond (n == 0x0040) (Some Routine) None)))))))))
+
+abbrev pub NamesKind : ℕ → Result Kind UnknownKind → Type 0
+NamesKind n r = MatchResult r (λ k. kind_of n ≡ Some k) (λ _. kind_of n ≡ None)
+
+-- the form of a number, where it has one
+abbrev pub form_of : ℕ → Option Form
+form_of n = cond (n == 1) (Some Facts) (cond (n == 2) (Some Listed) None)
+
+abbrev pub NamesForm : ℕ → Result Form UnknownForm → Type 0
+NamesForm n r = MatchResult r (λ f. form_of n ≡ Some f) (λ _. form_of n ≡ None)
 
 -- the groups come in this order: head, facts, acts, model, layers, routine
 abbrev pub group_of : Kind → ℕ
@@ -48,6 +62,19 @@ of_form Move form = form == 2
 of_form Mark form = true
 of_form Allowance form = true
 of_form Routine form = true
+
+-- the form that alone has the kind, if one has not
+abbrev pub form_alone : Kind → Option Form
+form_alone Head = None
+form_alone Fact = None
+form_alone Act = None
+form_alone Rule = Some Facts
+form_alone Change = Some Facts
+form_alone State = Some Listed
+form_alone Move = Some Listed
+form_alone Mark = None
+form_alone Allowance = None
+form_alone Routine = None
 
 -- the longest routine text
 abbrev pub most_text : ℕ

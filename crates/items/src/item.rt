@@ -9,6 +9,7 @@ use records::join;
 // The head of a job file: the form of its lock, its counts, and its first state.
 #[derive(Clone, Copy)]
 pub struct Header {
+    // The byte as it stands in the file: `head_field` tells one that names no form, as it tells a count out of range.
     pub form: u8,
     pub facts: u8,
     pub acts: u8,

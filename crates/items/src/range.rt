@@ -1,9 +1,10 @@
-ghost use Rattle.std.specs.Prelude.{◌≡◌, ℕ, ◌+◌, ◌^◌, ◌<◌, ◌≤◌, true, false, length, ◌==◌, slice_index};
+ghost use Rattle.std.specs.Prelude.{◌≡◌, ◌^◌, ◌&&◌, ◌||◌, ◌==◌, nat_le, slice_index};
 ghost use Rattle.items.specs.Layout.{said};
 ghost use Rattle.items.specs.Layout.Entry.{rule, change, state, move, mark, allowance};
 ghost use Rattle.items.specs.Ranges.{first_bad, within_facts, right_states, head_field, bad_field};
 
 use super::item::{Header, Item};
+use super::kind::Form;
 
 const MOST_FACTS: u8 = 12;
 
@@ -19,12 +20,7 @@ const MOST_ALLOWANCE: u8 = 7;
 fn first_bad(tests: &[(usize, bool)]) -> Option<usize>
     ensures { result ≡ first_bad tests.now }
 {
-    for (at, good) in tests {
-        if !*good {
-            return Some(*at);
-        }
-    }
-    None
+    tests.iter().find(|(_, good)| !*good).map(|(at, _)| *at)
 }
 
 // Whether no bit at or above the count of facts is set.
@@ -40,13 +36,24 @@ fn is_power(facts: u8, states: u16) -> bool
     facts < 16 && states as u32 == 1u32 << facts
 }
 
+fn names_form(number: u8) -> bool
+    ensures { result ≡ ((number == 1) || number == 2) }
+{
+    Form::try_from(number).is_ok()
+}
+
+fn is_count(count: u8, most: u8) -> bool
+    ensures { result ≡ (nat_le 1 count && nat_le count most) }
+{
+    (1..=most).contains(&count)
+}
+
 fn right_states(head: &Header) -> bool
     ensures { result ≡ right_states head.now }
 {
-    if head.form == 1 {
-        is_power(head.facts, head.states)
-    } else {
-        head.states >= 1 && head.states <= MOST_LISTED
+    match Form::try_from(head.form) {
+        Ok(Form::Facts) => is_power(head.facts, head.states),
+        _ => (1..=MOST_LISTED).contains(&head.states),
     }
 }
 
@@ -55,9 +62,9 @@ pub fn head_field(head: &Header) -> Option<usize>
     ensures { result ≡ head_field head.now }
 {
     first_bad(&[
-        (0, head.form == 1 || head.form == 2),
-        (1, head.facts >= 1 && head.facts <= MOST_FACTS),
-        (2, head.acts >= 1 && head.acts <= MOST_ACTS),
+        (0, names_form(head.form)),
+        (1, is_count(head.facts, MOST_FACTS)),
+        (2, is_count(head.acts, MOST_ACTS)),
         (3, right_states(head)),
         (5, head.first < head.states),
     ])

@@ -22,9 +22,10 @@ pub enum RecordFault {
     WrongLength(usize),
 }
 
-// A record and the bytes behind it, both as parts of the file.
+// A record with its offset, and the bytes behind it, all as parts of the file.
 #[derive(Clone, Copy)]
 pub struct Record<'a> {
+    pub at: usize,
     pub kind: u16,
     pub body: &'a [u8],
     pub rest: &'a [u8],
@@ -34,12 +35,12 @@ pub struct Record<'a> {
 pub fn join(low: u8, high: u8) -> u16
     ensures { result ≡ two_bytes low high }
 {
-    low as u16 + 256 * high as u16
+    u16::from_le_bytes([low, high])
 }
 
 // The record at the front of the bytes, which stand at this offset of the file.
 pub fn split(bytes: &[u8], at: usize) -> Result<Record<'_>, RecordFault>
-    ensures { MatchResult result (λ p. front bytes.now ≡ whole p.kind p.body.now p.rest.now) (λ f. (f ≡ RecordFault.Cut at) × (front bytes.now ≡ cut)) }
+    ensures { MatchResult result (λ p. (p.at ≡ at) × (front bytes.now ≡ whole p.kind p.body.now p.rest.now)) (λ f. (f ≡ RecordFault.Cut at) × (front bytes.now ≡ cut)) }
 {
     let [l0, l1, k0, k1, rest @ ..] = bytes else {
         return Err(RecordFault::Cut(at));
@@ -50,5 +51,10 @@ pub fn split(bytes: &[u8], at: usize) -> Result<Record<'_>, RecordFault>
     }
     let (body, rest) = rest.split_at(n);
     let kind = join(*k0, *k1);
-    Ok(Record { kind, body, rest })
+    Ok(Record {
+        at,
+        kind,
+        body,
+        rest,
+    })
 }
