@@ -13,7 +13,7 @@ use items::item::Item;
 use items::place::{open, place};
 use items::range::{bad_field, head_field};
 use locks::marks::Marks;
-use records::split;
+use records::{Record, split};
 use std::alloc::Global;
 use words::is_name;
 use words::names::Names;
@@ -24,29 +24,30 @@ const PREFIX: usize = 4;
 // The most moves of a file.
 const MOST_MOVES: usize = 2048;
 
-// Whether these bytes can be the next name behind those before it, and if not, the fault.
-fn misnamed(at: usize, name: &[u8], before: &Names) -> Option<ModelFault>
+// Refuses bytes that cannot be the next name behind those before it.
+fn check_name(at: usize, name: &[u8], before: &Names) -> Result<(), ModelFault>
     requires { at + 4 < 2 ^ 64 }
-    ensures { result ≡ misnamed at name.now (name_list before.now) }
+    ensures { MatchResult result (λ _. misnamed at name.now (name_list before.now) ≡ None) (λ f. misnamed at name.now (name_list before.now) ≡ Some f) }
 {
     if !is_name(name) {
-        return Some(ModelFault::BadName(at + PREFIX));
+        return Err(ModelFault::BadName(at + PREFIX));
     }
     if before.has(name) {
-        return Some(ModelFault::SameName(at + PREFIX));
+        return Err(ModelFault::SameName(at + PREFIX));
     }
-    None
+    Ok(())
 }
 
 impl<'a> Draft<'a> {
-    fn name_fault(&self, at: usize, item: Item<'_>) -> Option<ModelFault>
+    // Refuses a name that is none, or that has come already.
+    fn check_item_name(&self, at: usize, item: Item<'_>) -> Result<(), ModelFault>
         requires { at + 4 < 2 ^ 64 }
-        ensures { result ≡ name_fault (name_list self.now.facts) (name_list self.now.acts) at (said item.entry) }
+        ensures { MatchResult result (λ _. name_fault (name_list self.now.facts) (name_list self.now.acts) at (said item.entry) ≡ None) (λ f. name_fault (name_list self.now.facts) (name_list self.now.acts) at (said item.entry) ≡ Some f) }
     {
         match item {
-            Item::Fact(name) => misnamed(at, name, &self.facts),
-            Item::Act(name) => misnamed(at, name, &self.acts),
-            _ => None,
+            Item::Fact(name) => check_name(at, name, &self.facts),
+            Item::Act(name) => check_name(at, name, &self.acts),
+            _ => Ok(()),
         }
     }
 
@@ -74,17 +75,16 @@ impl<'a> Draft<'a> {
     }
 
     // What the record says, if it may stand where it stands.
-    fn weigh(&self, at: usize, kind: u16, body: &'a [u8]) -> Result<Item<'a>, ModelFault>
-        requires { at + 4 + size body.now < 2 ^ 64 }
-        ensures { (c : Contents) → Stands self.now c → MatchResult result (λ i. weigh self.now.head c at kind body.now ≡ Ok (said i)) (λ f. weigh self.now.head c at kind body.now ≡ Err f) }
+    fn weigh(&self, raw: Record<'a>) -> Result<Item<'a>, ModelFault>
+        requires { raw.at + 4 + size raw.body.now < 2 ^ 64 }
+        ensures { (c : Contents) → Stands self.now c → MatchResult result (λ i. weigh self.now.head c raw.entry.at raw.entry.kind raw.entry.body.now ≡ Ok (said i)) (λ f. weigh self.now.head c raw.entry.at raw.entry.kind raw.entry.body.now ≡ Err f) }
     {
-        let item = place(self.head.form, self.group, at, kind, body)?;
+        let at = raw.at;
+        let item = place(self.head.form, self.group, raw)?;
         if let Some(field) = bad_field(&self.head, item) {
             return Err(ModelFault::Field(at + PREFIX + field));
         }
-        if let Some(fault) = self.name_fault(at, item) {
-            return Err(fault);
-        }
+        self.check_item_name(at, item)?;
         if self.too_often(item) {
             return Err(ModelFault::TooOften(at));
         }
@@ -107,10 +107,7 @@ impl<'a> Draft<'a> {
             }
             Item::Allowance(k) => self.allowance = Some(k),
             Item::Routine(text) => self.text = Some(text),
-            Item::Head(_) => {}
-            Item::Rule { .. } => {}
-            Item::Change { .. } => {}
-            Item::State(_) => {}
+            Item::Head(_) | Item::Rule { .. } | Item::Change { .. } | Item::State(_) => {}
         }
         Ok(())
     }
@@ -122,8 +119,8 @@ impl<'a> Draft<'a> {
         if file.is_empty() {
             return Err(ModelFault::Missing(0));
         }
-        let record = split(file, 0)?;
-        let head = open(0, record.kind, record.body)?;
+        let raw = split(file, 0)?;
+        let head = open(raw)?;
         if let Some(field) = head_field(&head) {
             return Err(ModelFault::Field(PREFIX + field));
         }
@@ -139,7 +136,7 @@ impl<'a> Draft<'a> {
             allowance: None,
             text: None,
         };
-        Ok((draft, record.rest))
+        Ok((draft, raw.rest))
     }
 
     // Takes the record at the front of the bytes, which end a file of this length. A refused record ends the draft.
@@ -152,14 +149,14 @@ impl<'a> Draft<'a> {
         ensures { (c : Contents) → Stands self.entry c → MatchResult result (λ t. (i : Entry) × (turn self.entry.head c (length - size bytes.now) bytes.now ≡ Ok (i, t.1.rest.now)) × (option_map (λ x. x.now) t.1.text ≡ text_in i) × Stands t.0 (with_item c i) × (t.0.head ≡ self.entry.head)) (λ f. (f ≡ ModelFault.Memory) ⊎ (turn self.entry.head c (length - size bytes.now) bytes.now ≡ Err f)) }
     {
         let at = length.saturating_sub(bytes.len());
-        let record = split(bytes, at)?;
-        let item = self.weigh(at, record.kind, record.body)?;
+        let raw = split(bytes, at)?;
+        let item = self.weigh(raw)?;
         self.enter(heap, item)?;
         let text = item.text();
         Ok((
             self,
             Taken {
-                rest: record.rest,
+                rest: raw.rest,
                 text,
             },
         ))

@@ -6,7 +6,7 @@ use Rattle.model.proofs.draft.Draft.begin.Goals as goal
 
 pub returns : goal.returns
 returns c = (
-  begins_with c.args.file.now c.in_ok-record.record.kind c.in_ok-record.record.body.now c.in_ok-record.record.rest.now c.in_ok-head.head c.in_ok-record.ensures (search rules) (search rules),
+  begins_with c.args.file.now c.in_ok-raw.raw.kind c.in_ok-raw.raw.body.now c.in_ok-raw.raw.rest.now c.in_ok-head.head c.in_ok-raw.ensures.1 (search rules) (search rules),
   record {
     few_acts = search rules;
     group = search rules;
