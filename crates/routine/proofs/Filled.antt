@@ -5,10 +5,11 @@ use Rattle.std.proofs.lemmas.List.{get_or_append_left, get_or_push, length_push,
 use Rattle.std.proofs.lemmas.Bool.{cases_lt}
 use Rattle.golog.specs.Programs.{Prog}
 use Rattle.golog.specs.Points.{no_act, points, goes_on, valuation}
-use Rattle.routine.specs.Sets.{Holds}
+use Rattle.routine.specs.Sets.{Holds, no_points}
 use Rattle.routine.specs.Rows.{IsRow}
 use Rattle.routine.specs.Tables.{no_row, RowsOf, GoingOf}
 use Rattle.routine.specs.declared.row.Row.{Row}
+use Rattle.routine.specs.declared.set.PointSet.{PointSet}
 
 pub acts_more : (ws xs : List ℕ) (w x : ℕ) → xs ≡ no_act ∷ take w ws → w < length ws → x ≡ get_or ws w no_act → xs ++ x ∷ [] ≡ no_act ∷ take (w + 1) ws
 acts_more ws xs w x e h f =
@@ -34,10 +35,10 @@ rows_push δ rows r v k known e h new =
     (sym (ap (λ n. n % points δ) e ∙ mod-mul-add v (points δ) k h)) new)
 
 pub going_push :
-    (δ : Prog) (sets : List ℕ) (s n : ℕ) → GoingOf δ sets → length sets ≡ n → Holds s (goes_on δ (valuation n)) → GoingOf δ (sets ++ s ∷ [])
+    (δ : Prog) (sets : List PointSet) (s : PointSet) (n : ℕ) → GoingOf δ sets → length sets ≡ n → Holds s (goes_on δ (valuation n)) → GoingOf δ (sets ++ s ∷ [])
 going_push δ sets s n known e new =
     λ i j h.
-    known_push (λ n s. Holds s (goes_on δ (valuation n))) 0 sets s (λ n l j k. known n j (l, k)) (subst (λ m. Holds s (goes_on δ (valuation m))) (sym e) new) i
+    known_push (λ n s. Holds s (goes_on δ (valuation n))) no_points sets s (λ n l j k. known n j (l, k)) (subst (λ m. Holds s (goes_on δ (valuation m))) (sym e) new) i
     h.0 j h.1
 
 -- the row of a point under a valuation

@@ -6,13 +6,14 @@ use Rattle.std.proofs.lemmas.Bool.{cases_lt, cases_order, eq-eqb, ne_eqb, lt-ltb
 use Rattle.std.proofs.lemmas.Bool.Decides.{same_from_decides}
 use Rattle.locks.specs.Meaning.{any_below}
 use Rattle.golog.specs.Programs.{Prog, Valuation, Final}
-use Rattle.golog.specs.Points.{points, rem, next, goes_on}
+use Rattle.golog.specs.Points.{points, rem, next, goes_on, valuation}
 use Rattle.golog.proofs.Bridge.{next_in}
 use Rattle.golog.proofs.Searches.{any_found, any_from}
 use Rattle.golog.proofs.OneWays.{Dead, dead_past, next_from}
 use Rattle.routine.specs.Sets.{room, has, some_in}
 use Rattle.routine.specs.Rows.{IsRow}
 use Rattle.routine.specs.declared.row.Row.{Row}
+use Rattle.routine.specs.declared.set.PointSet.{PointSet}
 use Rattle.routine.proofs.Masks.{has_past}
 
 pub same_tests : (a b : Bool) → (a ≡ true → b ≡ true) → (b ≡ true → a ≡ true) → a ≡ b
@@ -23,25 +24,25 @@ false_from true h = absurd (h refl)
 false_from false h = refl
 
 -- a number has a bit unless it is 0
-top_bit : (k n : ℕ) → 2 ^ k ≤ n → n < 2 ^ suc k → has n k ≡ true
+top_bit : (k n : ℕ) → 2 ^ k ≤ n → n < 2 ^ suc k → valuation n k ≡ true
 top_bit k n h l =
     let e = pow-suc 2 k in
     let d : n / 2 ^ k ≡ 1 = div-eq_of_lt-le {k = 1} (2 ^ k) (omega arith) (omega arith) in
     ap (λ x. eqb (x % 2) 1) d
 
-some_bit : (k n : ℕ) → n < 2 ^ k → not (eqb n 0) ≡ any_below k (has n)
+some_bit : (k n : ℕ) → n < 2 ^ k → not (eqb n 0) ≡ any_below k (valuation n)
 some_bit zero n h = let e : n ≡ 0 = omega arith in ap (λ x. not (eqb x 0)) e
 some_bit (suc k) n h =
     elim (cases_lt n (2 ^ k)) [
-      | inl l ↦ some_bit k n l ∙ sym (ap (λ b. b || any_below k (has n)) (has_past n k k l (omega arith)))
+      | inl l ↦ some_bit k n l ∙ sym (ap (λ b. b || any_below k (valuation n)) (has_past n k k l (omega arith)))
       | inr l ↦
           let p = pow_pos k in
-          ap not (ne_eqb n 0 (λ e. omega arith)) ∙ sym (ap (λ b. b || any_below k (has n)) (top_bit k n l h))
+          ap not (ne_eqb n 0 (λ e. omega arith)) ∙ sym (ap (λ b. b || any_below k (valuation n)) (top_bit k n l h))
     ]
 
-pub some_in_is : (n : ℕ) → n < 2 ^ 64 → not (eqb n 0) ≡ some_in n
+pub some_in_is : (s : PointSet) → s.bits < 2 ^ 64 → not (eqb s.bits 0) ≡ some_in s
 unfolding some_in
-some_in_is n h = some_bit 64 n h
+some_in_is s h = some_bit 64 s.bits h
 
 -- a row says whether its point goes on
 pub row_goes_on :

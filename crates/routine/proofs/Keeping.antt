@@ -1,5 +1,5 @@
 -- What rows say of the program that is kept.
-use Rattle.std.proofs.Common.{◌≡◌, ℕ, ◌≤◌, Bool, false, arith}
+use Rattle.std.proofs.Common.{◌≡◌, ℕ, ◌≤◌, Bool, true, false, ◌<◌, Some, None, MatchOption, Option, sym, arith}
 use mathlib.Core.Option.{none}
 use Rattle.std.proofs.lemmas.Bool.{both_ways}
 use Rattle.locks.specs.Meaning.{any_below}
@@ -9,15 +9,15 @@ use Rattle.golog.specs.Search.{lowest}
 use Rattle.golog.proofs.Bridge.{next_in}
 use Rattle.golog.proofs.Searches.{none_of, any_found, lowest_some}
 use Rattle.routine.specs.Kept.{kept_prog}
-use Rattle.routine.specs.Found.{NoneBelow}
-use Rattle.routine.specs.declared.kept.Kept.{Kept}
-use Rattle.routine.specs.declared.kept.Kept.TheVariants.{Nil, Filled}
+use Rattle.routine.specs.Found.{NoneBelow, found}
+use Rattle.routine.specs.declared.tables.Tables.{Tables}
 use Rattle.routine.proofs.Going.{false_from}
 use Rattle.routine.proofs.Tabled.{few_points}
+use Rattle.routine.proofs.FoundWays.{lowest_is}
 
-pub kept_few : (k : Kept) → points (kept_prog k) ≤ 64
-kept_few Nil = omega arith
-kept_few (Filled t) = few_points t
+pub kept_few : (k : Option Tables) → points (kept_prog k) ≤ 64
+kept_few None = omega arith
+kept_few (Some t) = few_points t
 
 -- no point past the last comes next
 pub next_far : (δ : Prog) (v : Valuation) (p q : ℕ) → points δ ≤ q → next δ v p q ≡ false
@@ -28,3 +28,9 @@ none_any n t h = false_from (any_below n t) (λ e. let (k, l, x) = any_found n t
 
 pub none_lowest : (n : ℕ) (t : ℕ → Bool) → NoneBelow n t → lowest n t ≡ none
 none_lowest n t h = none_of (lowest n t) (λ k e. let (l, x, _) = lowest_some n t k e in both_ways (t k) (h k l) x)
+
+-- the first number below n that passes, as a search finds it
+pub found_lowest : (n : ℕ) (t : ℕ → Bool) (o : Option ℕ) →
+    MatchOption o (NoneBelow n t) (λ k. (k < n) × (t k ≡ true) × NoneBelow k t) → found o ≡ lowest n t
+found_lowest n t None h = sym (none_lowest n t h)
+found_lowest n t (Some k) (l, e, lower) = sym (lowest_is n t k l e lower)

@@ -4,7 +4,8 @@ use native.Mathlib.Nat.{zero-div, div-eq_of_lt}
 use lib.Bits.{bit_and, bit_or, and_shr, and_mod, or_shr, or_mod, shifted_even}
 use Rattle.std.proofs.lemmas.Nat.{pow-add, shl-shr, shr-shr, mod-pow-add, field_of, mod_below, mod-mul-add}
 use Rattle.std.proofs.lemmas.Bool.{cases_lt, cases_eq, le-leb, lt-leb, eq-eqb, ne_eqb}
-use Rattle.routine.specs.Sets.{has, Holds, moved}
+use Rattle.golog.specs.Points.{valuation as has}
+use Rattle.routine.specs.Sets.{moved}
 
 -- a bit is 0 or 1
 or_bit : (x y : ℕ) → x < 2 → y < 2 → eqb (bit_or x y) 1 ≡ (eqb x 1 || eqb y 1)
@@ -76,7 +77,7 @@ has_moved a s j =
       | inr h ↦ moved_far a s j h ∙ sym (ap (λ b. b && has a (j - s)) (le-leb s j h))
     ]
 
-pub moved_holds : (a s : ℕ) → Holds ((a * 2 ^ s) % 2 ^ 64) (moved s (has a))
+pub moved_holds : (a s j : ℕ) → j < 64 → has ((a * 2 ^ s) % 2 ^ 64) j ≡ moved s (has a) j
 moved_holds a s j h = has_low (a * 2 ^ s) 64 j h ∙ has_moved a s j
 
 -- the set of one point

@@ -8,11 +8,12 @@ use Rattle.golog.specs.Points.{act_words, words, points, rem, next}
 use Rattle.golog.proofs.Bridge.{rem_in_first, rem_in_second, rem_in_left, rem_in_right}
 use Rattle.tree.specs.declared.tree.Tree.{Tree}
 use Rattle.tree.specs.Held.{prog_at}
-use Rattle.routine.specs.Sets.{room, has, Holds, moved}
+use Rattle.routine.specs.Sets.{room, has, Holds, moved, no_points}
 use Rattle.routine.specs.Rows.{IsRow, IsStart, Starts, counted, no_start}
 use Rattle.routine.specs.declared.row.Row.{Row}
 use Rattle.routine.specs.declared.row.Start.{Start}
-use Rattle.routine.proofs.Masks.{has_none, has_single}
+use Rattle.routine.specs.declared.set.PointSet.{PointSet}
+use Rattle.routine.proofs.Masks.{has_none}
 use Rattle.routine.proofs.Points.{final_zero, seq_next, seq_next_first, seq_next_second, alt_next, alt_next_left, alt_next_right, star_next, star_next_after}
 
 -- a count that ends at 64 moves as the whole count
@@ -24,7 +25,7 @@ moved_counted δ t j h =
           ap (λ b. b && t (j - counted δ)) (lt-leb (counted δ) j (omega arith)) ∙ sym (ap (λ b. b && t (j - words δ)) (lt-leb (words δ) j (omega arith)))
     ]
 
-moved_same : (δ : Prog) (n set : ℕ) (t : ℕ → Bool) → n ≡ counted δ → Holds set t → (j : ℕ) → j < room →
+moved_same : (δ : Prog) (n : ℕ) (set : PointSet) (t : ℕ → Bool) → n ≡ counted δ → Holds set t → (j : ℕ) → j < room →
     moved n (has set) j ≡ moved (words δ) t j
 moved_same δ n set t e h j l =
     ap (λ k. moved k (has set) j) e ∙ (moved_counted δ (has set) j l ∙ ap (λ b. leb (words δ) j && b) (h (j - words δ) (omega arith)))
@@ -36,10 +37,10 @@ sum_counted : (p q : Prog) (a b : ℕ) → a ≡ counted p → b ≡ counted q �
 sum_counted p q a b e f = omega arith
 
 -- the beginnings
-pub start_act : (a : ℕ) (v : Valuation) → IsStart (act a) v (record { words = 1; row = record { stop = false; next = 2 } })
-start_act a v = (refl, (refl, λ j h. has_single 1 j))
+pub start_act : (a : ℕ) (v : Valuation) (s : PointSet) → Holds s (λ j. eqb j 1) → IsStart (act a) v (record { words = 1; row = record { stop = false; next = s } })
+start_act a v s one = (refl, (refl, one))
 
-pub start_test : (c : Cond) (v : Valuation) (b : Bool) → b ≡ eval c v → IsStart (test c) v (record { words = 0; row = record { stop = b; next = 0 } })
+pub start_test : (c : Cond) (v : Valuation) (b : Bool) → b ≡ eval c v → IsStart (test c) v (record { words = 0; row = record { stop = b; next = no_points } })
 start_test c v b e = (refl, (e, λ j h. has_none j))
 
 pub start_star :
@@ -78,11 +79,11 @@ module _ (p q : Prog) (v : Valuation) (a b : Start) (first : IsStart p v a) (sec
       )
 
 -- the rows after an act word
-pub after_act : (a : ℕ) (v : Valuation) (i : ℕ) (b : Bool) → b ≡ eqb i 0 → IsRow (act a) v (suc i) (record { stop = b; next = 0 })
+pub after_act : (a : ℕ) (v : Valuation) (i : ℕ) (b : Bool) → b ≡ eqb i 0 → IsRow (act a) v (suc i) (record { stop = b; next = no_points })
 after_act a v zero b e = (e, λ j h. has_none j)
 after_act a v (suc i) b e = (e ∙ ne_eqb (suc i) 0 (λ z. omega arith), λ j h. has_none j)
 
-pub after_test : (c : Cond) (v : Valuation) (i : ℕ) → IsRow (test c) v (suc i) (record { stop = false; next = 0 })
+pub after_test : (c : Cond) (v : Valuation) (i : ℕ) → IsRow (test c) v (suc i) (record { stop = false; next = no_points })
 after_test c v i = (refl, λ j h. has_none j)
 
 pub after_star :

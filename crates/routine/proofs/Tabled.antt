@@ -34,9 +34,6 @@ module _ (t : Tables) where
   pub few_points : points (tables_prog t) ≤ room
   few_points = omega (arith, ltb-true _ _ t.short)
 
-  pub few_facts : t.facts ≤ 12
-  few_facts = omega (arith, ltb-true _ _ t.few)
-
   pub table_rows : RowsOf (tables_prog t) (vec_items t.rows)
   table_rows i h = (t.stops i h, λ j l. t.nexts i j (h, l))
 

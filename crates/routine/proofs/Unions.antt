@@ -1,6 +1,6 @@
 -- Sets joined over one valuation after another.
-use Rattle.std.proofs.Common.{◌≡◌, ℕ, ◌+◌, ◌^◌, ◌<◌, Bool, true, false, ◌&&◌, ◌||◌, eqb, ltb, sym, refl, ap, ◌∙◌, ap₂, add-one}
-use Rattle.std.proofs.lemmas.Bool.{lt-ltb, and_parts, and_from, and_right}
+use Rattle.std.proofs.Common.{◌≡◌, ℕ, ◌+◌, ◌^◌, Bool, true, false, ◌&&◌, ◌||◌, eqb, ltb, sym, refl, ap, ◌∙◌, ap₂, add-one}
+use Rattle.std.proofs.lemmas.Bool.{lt-ltb, and_parts}
 use Rattle.locks.specs.Meaning.{any_below}
 use Rattle.golog.specs.Programs.{Prog}
 use Rattle.golog.specs.Points.{points, word, next, valuation, together, go_on_together, two_ways_at}
@@ -49,12 +49,6 @@ together_is δ facts p q j x y e f =
     lt-ltb j (points δ) (next_in δ (valuation n) p j w))
 
 -- a second way, from the two sets
-module _ (δ : Prog) (facts p q r : ℕ) (b x y : Bool) (e : b ≡ (x && y)) (f : x ≡ together facts δ p q r) (g : y ≡ go_on_together facts δ q r) where
-  both_sets : b ≡ (together facts δ p q r && go_on_together facts δ q r)
-  both_sets = e ∙ ap₂ ◌&&◌ f g
-
-  pub two_ways_here : b ≡ true → q < r → two_ways_at facts δ p q r ≡ true
-  two_ways_here h l = and_from (ltb q r) (together facts δ p q r && go_on_together facts δ q r) (lt-ltb q r l) (sym both_sets ∙ h)
-
-  pub not_two_ways : b ≡ false → two_ways_at facts δ p q r ≡ false
-  not_two_ways h = and_right (ltb q r) (together facts δ p q r && go_on_together facts δ q r) (sym both_sets ∙ h)
+pub two_ways_from : (δ : Prog) (facts p q r : ℕ) (x y : Bool) → x ≡ together facts δ p q r → y ≡ go_on_together facts δ q r →
+    (ltb q r && (x && y)) ≡ two_ways_at facts δ p q r
+two_ways_from δ facts p q r x y f g = ap (λ b. ltb q r && b) (ap₂ ◌&&◌ f g)

@@ -9,7 +9,7 @@ use Rattle.routine.specs.declared.fault.RoutineFault.TheVariants.{TwoWays, Memor
 use Rattle.routine.specs.declared.routine.Routine.{Routine}
 
 abbrev pub routine_prog : Routine → Prog
-routine_prog r = kept_prog r.kept
+routine_prog r = kept_prog r.tables
 
 -- the point k comes next from p by the act
 abbrev pub next_by : Prog → Valuation → ℕ → ℕ → ℕ → Bool

@@ -4,7 +4,7 @@ use Rattle.golog.specs.Programs.{Valuation, Prog, Final}
 use Rattle.golog.specs.Points.{words, rem, next}
 use Rattle.tree.specs.declared.tree.Tree.{Tree}
 use Rattle.tree.specs.Held.{prog_at}
-use Rattle.routine.specs.Sets.{room, Holds}
+use Rattle.routine.specs.Sets.{room, Holds, no_points}
 use Rattle.routine.specs.declared.row.Row.{Row}
 use Rattle.routine.specs.declared.row.Start.{Start}
 
@@ -21,7 +21,7 @@ abbrev pub IsStart : Prog → Valuation → Start → Type 0
 IsStart δ v s = (s.words ≡ counted δ) × IsRow δ v 0 s.row
 
 abbrev pub no_start : Start
-no_start = record { words = 0; row = record { stop = false; next = 0 } }
+no_start = record { words = 0; row = record { stop = false; next = no_points } }
 
 -- the counts of the entries of a tree, and their beginnings
 abbrev pub Counts : Tree → List Start → Type 0

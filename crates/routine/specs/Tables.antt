@@ -1,13 +1,14 @@
 -- What the tables of a program hold.
-use Rattle.std.specs.Prelude.{◌≡◌, ℕ, ◌/◌, ◌%◌, ◌<◌, false, List, ◌∷◌, length, get_or, slice_index, slice_index_or}
+use Rattle.std.specs.Prelude.{◌≡◌, ℕ, ◌/◌, ◌%◌, ◌<◌, false, List, ◌∷◌, length, get_or, slice_index_or}
 use Rattle.golog.specs.Programs.{Prog, Final}
 use Rattle.golog.specs.Points.{no_act, act_words, points, rem, next, goes_on, valuation}
-use Rattle.routine.specs.Sets.{room, has}
+use Rattle.routine.specs.Sets.{room, has, no_points}
 use Rattle.routine.specs.Rows.{IsRow}
 use Rattle.routine.specs.declared.row.Row.{Row}
+use Rattle.routine.specs.declared.set.PointSet.{PointSet}
 
 abbrev pub no_row : Row
-no_row = record { stop = false; next = 0 }
+no_row = record { stop = false; next = no_points }
 
 -- the act words before the points
 abbrev pub acts_before : Prog → List ℕ
@@ -26,5 +27,5 @@ NextsOf δ rows =
     (i j : ℕ) → (i < length rows) × (j < room) → has (get_or rows i no_row).next j ≡ next δ (valuation (i / points δ)) (i % points δ) j
 
 -- the points that go on, under one valuation after another
-abbrev pub GoingOf : Prog → List ℕ → Type 0
-GoingOf δ sets = (n j : ℕ) → (n < length sets) × (j < room) → has (slice_index sets n) j ≡ goes_on δ (valuation n) j
+abbrev pub GoingOf : Prog → List PointSet → Type 0
+GoingOf δ sets = (n j : ℕ) → (n < length sets) × (j < room) → has (slice_index_or sets n no_points) j ≡ goes_on δ (valuation n) j

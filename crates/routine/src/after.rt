@@ -6,6 +6,7 @@ ghost use Rattle.routine.specs.Rows.{Counts, IsRow, Starts};
 
 use crate::entry::node_at;
 use crate::row::{Row, Start};
+use crate::set::PointSet;
 use tree::node::Node;
 use tree::tree::Tree;
 
@@ -21,11 +22,11 @@ pub(crate) fn after(tree: &Tree, starts: &[Start], i: u16, word: u8) -> Row
     match node_at(tree, i) {
         Node::Act(_) => Row {
             stop: word == 0,
-            next: 0,
+            next: PointSet::EMPTY,
         },
         Node::Test(_) => Row {
             stop: false,
-            next: 0,
+            next: PointSet::EMPTY,
         },
         Node::Seq(a, b) => {
             let by = starts[a as usize].words;

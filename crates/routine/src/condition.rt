@@ -4,23 +4,9 @@ ghost use Rattle.golog.specs.Programs.{eval};
 ghost use Rattle.tree.specs.Held.{cond_at};
 
 use crate::entry::clause_at;
+use locks::facts::holds;
 use tree::node::Clause;
 use tree::tree::Tree;
-
-// How many valuations so many facts have.
-pub(crate) fn valuations(facts: u8) -> u32
-    requires { facts ≤ 12 }
-    ensures is { result ≡ 2 ^ facts }
-    ensures few { result ≤ 4096 }
-{
-    1 << facts
-}
-
-fn holds(valuation: u32, fact: u8) -> bool
-    ensures { result ≡ valued valuation fact }
-{
-    fact < 32 && (valuation >> fact) % 2 == 1
-}
 
 // Whether the condition of an entry holds; its parts stand below it.
 pub(crate) fn value(tree: &Tree, i: u16, valuation: u32) -> bool

@@ -7,10 +7,10 @@ ghost use Rattle.routine.specs.Rows.{Counts};
 ghost use Rattle.routine.specs.Tables.{acts_before, RowsOf, GoingOf};
 
 use crate::after::{NO_ACT, act, row};
-use crate::condition::valuations;
 use crate::row::{Row, Start};
-use crate::set::{single, union};
+use crate::set::PointSet;
 use crate::starts::starts;
+use locks::facts::FactCount;
 use std::alloc::{AllocError, Global};
 use tree::tree::Tree;
 
@@ -62,29 +62,28 @@ pub(crate) fn all_rows(
     tree: &Tree,
     root: u16,
     count: u8,
-    facts: u8,
+    facts: FactCount,
 ) -> Result<Vec<Row>, AllocError>
-    requires few { facts ≤ 12 }
     requires count { (count ≡ points (prog_at tree.now root)) × (count ≤ 64) }
     ensures { IfOk result (λ t. RowsOf (prog_at tree.now root) t.items × (length t.items ≡ 2 ^ facts * count)) }
 {
     let mut rows = Vec::new(heap);
-    for valuation in 0..valuations(facts) {
+    for valuation in 0..facts.valuations() {
         push_rows(heap, &mut rows, tree, root, count, valuation)?;
     }
     Ok(rows)
 }
 
 // The points that go on under a valuation.
-fn going(rows: &[Row], count: u8, valuation: u32) -> u64
+fn going(rows: &[Row], count: u8, valuation: u32) -> PointSet
     requires few { (count ≤ 64) × (valuation < 4096) }
     requires within { (valuation + 1) * count ≤ length rows.now }
     ensures { (δ : Prog) → RowsOf δ rows.now → count ≡ points δ → Holds result (goes_on δ (valued valuation)) }
 {
-    let mut set = 0;
+    let mut set = PointSet::EMPTY;
     for point in 0..count {
         if rows[valuation as usize * count as usize + point as usize].goes_on() {
-            set = union(set, single(point));
+            set = set.union(PointSet::single(point));
         }
     }
     set
@@ -95,14 +94,14 @@ pub(crate) fn all_going(
     heap: Global,
     rows: &[Row],
     count: u8,
-    facts: u8,
-) -> Result<Vec<u64>, AllocError>
-    requires few { (facts ≤ 12) × (count ≤ 64) }
+    facts: FactCount,
+) -> Result<Vec<PointSet>, AllocError>
+    requires few { count ≤ 64 }
     requires within { 2 ^ facts * count ≤ length rows.now }
     ensures { IfOk result (λ s. (length s.items ≡ 2 ^ facts) × ((δ : Prog) → RowsOf δ rows.now → count ≡ points δ → GoingOf δ s.items)) }
 {
     let mut sets = Vec::new(heap);
-    for valuation in 0..valuations(facts) {
+    for valuation in 0..facts.valuations() {
         sets.push(going(rows, count, valuation))?;
     }
     Ok(sets)

@@ -6,7 +6,6 @@ mod condition;
 mod entry;
 pub mod fault;
 mod filling;
-mod kept;
 pub mod routine;
 mod row;
 mod set;

@@ -1,14 +1,14 @@
 ghost use Rattle.golog.specs.Points.{OneWay};
 ghost use Rattle.routine.specs.Kept.{kept_prog};
 
-use crate::kept::Kept;
+use crate::tables::Tables;
 
 mod answering;
 mod building;
 
-// A program that has one way.
+// A program that has one way, with its tables; the program `nil` has none.
 #[derive(Drop)]
 pub struct Routine {
-    kept: Kept,
-    ghost one: { ∥ OneWay (kept_prog kept) ∥₁ },
+    tables: Option<Tables>,
+    ghost one: { ∥ OneWay (kept_prog tables) ∥₁ },
 }

@@ -1,13 +1,13 @@
 ghost use Rattle.std.specs.Prelude.{◌≡◌, ◌&&◌, ◌||◌};
 ghost use Rattle.routine.specs.Sets.{has, Holds, moved, some_in};
 
-use crate::set::{has_some, moved_up, union};
+use crate::set::PointSet;
 
 // Whether a point may stop, and the set of the points that come next.
 #[derive(Clone, Copy)]
 pub(crate) struct Row {
     pub(crate) stop: bool,
-    pub(crate) next: u64,
+    pub(crate) next: PointSet,
 }
 
 // How many act words an entry has, up to 64, and the row of its beginning.
@@ -21,7 +21,7 @@ impl Row {
     pub(crate) fn goes_on(self) -> bool
         ensures { result ≡ (self.stop || some_in self.next) }
     {
-        self.stop || has_some(self.next)
+        self.stop || self.next.has_some()
     }
 
     // One after the other, the points of the second so many further on.
@@ -30,7 +30,7 @@ impl Row {
         ensures next { Holds result.next (λ j. has self.next j || (self.stop && moved by (has second.next) j)) }
     {
         let next = if self.stop {
-            union(self.next, moved_up(second.next, by))
+            self.next.union(second.next.moved_up(by))
         } else {
             self.next
         };
@@ -47,7 +47,7 @@ impl Row {
     {
         Row {
             stop: self.stop || second.stop,
-            next: union(self.next, moved_up(second.next, by)),
+            next: self.next.union(second.next.moved_up(by)),
         }
     }
 
@@ -57,7 +57,7 @@ impl Row {
     {
         Row {
             stop: self.stop,
-            next: moved_up(self.next, by),
+            next: self.next.moved_up(by),
         }
     }
 }

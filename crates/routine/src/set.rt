@@ -1,41 +1,61 @@
 ghost use Rattle.std.specs.Prelude.{◌≡◌, ◌<◌, ◌&&◌, ◌||◌, nat_eq};
 ghost use Rattle.routine.specs.Sets.{has, Holds, moved, some_in};
 
-pub(crate) fn contains(set: u64, point: u8) -> bool
-    requires { point < 64 }
-    ensures { result ≡ has set point }
-{
-    (set >> point) % 2 == 1
+// A set of points below 64: a point is in it where its bit is set.
+#[derive(Clone, Copy)]
+pub(crate) struct PointSet {
+    bits: u64,
 }
 
-pub(crate) fn single(point: u8) -> u64
-    requires { point < 64 }
-    ensures { Holds result (λ j. nat_eq j point) }
-{
-    1 << point
-}
+impl PointSet {
+    pub(crate) const EMPTY: PointSet = PointSet { bits: 0 };
 
-pub(crate) fn union(a: u64, b: u64) -> u64
-    ensures { Holds result (λ j. has a j || has b j) }
-{
-    a | b
-}
+    pub(crate) fn single(point: u8) -> PointSet
+        requires { point < 64 }
+        ensures { Holds result (λ j. nat_eq j point) }
+    {
+        PointSet { bits: 1 << point }
+    }
 
-pub(crate) fn common(a: u64, b: u64) -> u64
-    ensures { Holds result (λ j. has a j && has b j) }
-{
-    a & b
-}
+    pub(crate) fn contains(self, point: u8) -> bool
+        requires { point < 64 }
+        ensures { result ≡ has self point }
+    {
+        (self.bits >> point) % 2 == 1
+    }
 
-// The set with each point moved up; what goes past the last is lost.
-pub(crate) fn moved_up(set: u64, by: u8) -> u64
-    ensures { Holds result (moved by (has set)) }
-{
-    if by < 64 { set << by } else { 0 }
-}
+    pub(crate) fn union(self, other: PointSet) -> PointSet
+        ensures { Holds result (λ j. has self j || has other j) }
+    {
+        PointSet {
+            bits: self.bits | other.bits,
+        }
+    }
 
-pub(crate) fn has_some(set: u64) -> bool
-    ensures { result ≡ some_in set }
-{
-    set != 0
+    pub(crate) fn common(self, other: PointSet) -> PointSet
+        ensures { Holds result (λ j. has self j && has other j) }
+    {
+        PointSet {
+            bits: self.bits & other.bits,
+        }
+    }
+
+    // The set with each point moved up; what goes past the last is lost.
+    pub(crate) fn moved_up(self, by: u8) -> PointSet
+        ensures { Holds result (moved by (has self)) }
+    {
+        if by < 64 {
+            PointSet {
+                bits: self.bits << by,
+            }
+        } else {
+            PointSet::EMPTY
+        }
+    }
+
+    pub(crate) fn has_some(self) -> bool
+        ensures { result ≡ some_in self }
+    {
+        self.bits != 0
+    }
 }

@@ -6,6 +6,7 @@ ghost use Rattle.routine.specs.Rows.{IsStart, Starts};
 use crate::condition::value;
 use crate::entry::node_at;
 use crate::row::{Row, Start};
+use crate::set::PointSet;
 use std::alloc::{AllocError, Global};
 use tree::node::Node;
 use tree::tree::Tree;
@@ -13,20 +14,11 @@ use tree::tree::Tree;
 // The most act words that are counted.
 const ROOM: u8 = 64;
 
-// The beginning of an act: point 1 comes next.
-const ONE_ACT: Start = Start {
-    words: 1,
-    row: Row {
-        stop: false,
-        next: 2,
-    },
-};
-
 fn sum(a: u8, b: u8) -> u8
     requires { (a ≤ 64) × (b ≤ 64) }
     ensures { result ≡ min 64 (a + b) }
 {
-    if a + b < ROOM { a + b } else { ROOM }
+    (a + b).min(ROOM)
 }
 
 // The beginning of the entry whose parts begin as the list says.
@@ -36,12 +28,18 @@ fn start(tree: &Tree, starts: &[Start], i: u16, valuation: u32) -> Start
     ensures { IsStart (prog_at tree.now i) (valued valuation) result }
 {
     match node_at(tree, i) {
-        Node::Act(_) => ONE_ACT,
+        Node::Act(_) => Start {
+            words: 1,
+            row: Row {
+                stop: false,
+                next: PointSet::single(1),
+            },
+        },
         Node::Test(c) => Start {
             words: 0,
             row: Row {
                 stop: value(tree, c, valuation),
-                next: 0,
+                next: PointSet::EMPTY,
             },
         },
         Node::Seq(a, b) => {

@@ -5,6 +5,8 @@ ghost use Rattle.tree.specs.Held.{prog_at};
 ghost use Rattle.routine.specs.Tables.{acts_before, StopsOf, NextsOf, GoingOf};
 
 use crate::row::Row;
+use crate::set::PointSet;
+use locks::facts::FactCount;
 use tree::tree::Tree;
 
 mod making;
@@ -17,11 +19,10 @@ mod ways;
 pub(crate) struct Tables {
     tree: Tree,
     root: u16,
-    facts: u8,
+    facts: FactCount,
     acts: Vec<u8>,
     rows: Vec<Row>,
-    going: Vec<u64>,
-    ghost few: { nat_lt facts 13 ≡ true },
+    going: Vec<PointSet>,
     ghost short: { nat_lt (words (prog_at tree root)) 64 ≡ true },
     ghost named: { names_below facts (prog_at tree root) ≡ true },
     ghost worded: { acts.items ≡ acts_before (prog_at tree root) },

@@ -5,34 +5,55 @@ ghost use Rattle.tree.specs.Held.{prog_at};
 ghost use Rattle.golog.specs.Search.{lowest};
 ghost use Rattle.golog.specs.Points.{points, word, rem, next, goes_on, OneWay, valuation as valued};
 ghost use Rattle.routine.specs.Found.{found};
+ghost use Rattle.routine.specs.Rows.{IsRow};
 ghost use Rattle.routine.specs.Routines.{routine_prog, next_by, leads_to, StepsAt};
 
 use super::Routine;
-use crate::kept::Kept;
-use crate::set::contains;
+use crate::after::NO_ACT;
+use crate::row::Row;
+use crate::set::PointSet;
 use tree::tree::Tree;
 
 impl Routine {
+    // The row of a point; `nil` may stop at its only point.
+    fn row(&self, point: u32, valuation: u32) -> Row
+        ensures { IsRow (routine_prog self.now) (valued valuation) point result }
+    {
+        match &self.tables {
+            Some(tables) => tables.row(point, valuation),
+            None => Row {
+                stop: point == 0,
+                next: PointSet::EMPTY,
+            },
+        }
+    }
+
     // How many points there are: one more than act words, at most 64.
     pub fn points(&self) -> u8
         ensures is { result ≡ points (routine_prog self.now) }
         ensures few { result ≤ 64 }
     {
-        self.kept.points()
+        match &self.tables {
+            Some(tables) => tables.points(),
+            None => 1,
+        }
     }
 
     // The act word before a point, or 255 where there is none.
     pub fn word(&self, point: u32) -> u8
         ensures { result ≡ word (routine_prog self.now) point }
     {
-        self.kept.word(point)
+        match &self.tables {
+            Some(tables) => tables.word(point),
+            None => NO_ACT,
+        }
     }
 
     // Whether what remains at a point may stop.
     pub fn may_stop(&self, point: u32, valuation: u32) -> bool
         ensures { result ≡ Final (rem (routine_prog self.now) point) (valued valuation) }
     {
-        self.kept.row(point, valuation).stop
+        self.row(point, valuation).stop
     }
 
     // Whether a point comes next from another.
@@ -40,27 +61,28 @@ impl Routine {
         ensures is { result ≡ next (routine_prog self.now) (valued valuation) from to }
         ensures steps { StepsAt (routine_prog self.now) (valued valuation) from }
     {
-        to < 64 && contains(self.kept.row(from, valuation).next, to as u8)
+        to < 64 && self.row(from, valuation).next.contains(to as u8)
     }
 
     // Whether a point may stop or some point comes next.
     pub fn goes_on(&self, point: u32, valuation: u32) -> bool
         ensures { result ≡ goes_on (routine_prog self.now) (valued valuation) point }
     {
-        self.kept.row(point, valuation).goes_on()
+        self.row(point, valuation).goes_on()
+    }
+
+    // Whether a point comes next from another, and the act is the word before it.
+    fn comes_next_by(&self, from: u32, to: u32, act: u8, valuation: u32) -> bool
+        ensures { result ≡ next_by (routine_prog self.now) (valued valuation) from act to }
+    {
+        self.word(to) == act && self.comes_next(from, to, valuation)
     }
 
     // Whether some point comes next by the act.
     pub fn has_next(&self, point: u32, act: u8, valuation: u32) -> bool
         ensures { result ≡ any_below (points (routine_prog self.now)) (next_by (routine_prog self.now) (valued valuation) point act) }
     {
-        let next = self.kept.row(point, valuation).next;
-        for k in 0..self.points() {
-            if contains(next, k) && self.word(k as u32) == act {
-                return true;
-            }
-        }
-        false
+        (0..self.points()).any(|k| self.comes_next_by(point, u32::from(k), act, valuation))
     }
 
     // The lowest point that comes next by the act under the valuation before and goes on under the valuation after;
@@ -69,22 +91,16 @@ impl Routine {
         ensures is { found result ≡ lowest (points (routine_prog self.now)) (leads_to (routine_prog self.now) (valued before) (valued after) point act) }
         ensures one { OneWay (routine_prog self.now) }
     {
-        let next = self.kept.row(point, before).next;
-        for k in 0..self.points() {
-            if contains(next, k) && self.word(k as u32) == act && self.goes_on(k as u32, after) {
-                return Some(k);
-            }
-        }
-        None
+        (0..self.points()).find(|k| {
+            let next = u32::from(*k);
+            self.comes_next_by(point, next, act, before) && self.goes_on(next, after)
+        })
     }
 
     // The program in its tables, and its entry; `nil` needs none.
     pub fn tree(&self) -> Option<(&Tree, u16)>
         ensures { MatchOption result (routine_prog self.now ≡ nil) (λ p. prog_at p.0.now p.1 ≡ routine_prog self.now) }
     {
-        match &self.kept {
-            Kept::Nil => None,
-            Kept::Filled(tables) => Some(tables.tree()),
-        }
+        self.tables.as_ref().map(|tables| tables.tree())
     }
 }

@@ -7,8 +7,8 @@ ghost use Rattle.routine.specs.Routines.{routine_prog, Built};
 
 use super::Routine;
 use crate::fault::RoutineFault;
-use crate::kept::Kept;
 use crate::tables::Tables;
+use locks::facts::FactCount;
 use std::alloc::Global;
 use text::parsed::Parsed;
 use tree::tree::Tree;
@@ -18,7 +18,7 @@ impl Routine {
     pub fn nil() -> Routine
         ensures { routine_prog result ≡ nil }
     {
-        Routine { kept: Kept::Nil }
+        Routine { tables: None }
     }
 
     // The program of a text, if it has one way. More facts than a lock can have get no tables.
@@ -26,15 +26,15 @@ impl Routine {
         ensures { Built parsed.facts (parsed_prog parsed) result }
     {
         let (tree, root, facts) = parsed.into_parts();
-        if facts > 12 {
-            return Err(RoutineFault::Memory);
-        }
-        Routine::build(heap, tree, root, facts as u8)
+        let facts = u8::try_from(facts)
+            .ok()
+            .and_then(|facts| FactCount::new(facts))
+            .ok_or(RoutineFault::Memory)?;
+        Routine::build(heap, tree, root, facts)
     }
 
     // The program of an entry, if it has one way.
-    fn build(heap: Global, tree: Tree, root: u16, facts: u8) -> Result<Routine, RoutineFault>
-        requires few { facts ≤ 12 }
+    fn build(heap: Global, tree: Tree, root: u16, facts: FactCount) -> Result<Routine, RoutineFault>
         requires short { words (prog_at tree root) ≤ 63 }
         requires named { names_below facts (prog_at tree root) ≡ true }
         ensures { Built facts (prog_at tree root) result }
@@ -42,7 +42,7 @@ impl Routine {
         let tables = Tables::new(heap, tree, root, facts)?;
         match tables.ways() {
             None => Ok(Routine {
-                kept: Kept::Filled(tables),
+                tables: Some(tables),
             }),
             Some((from, first, second)) => Err(RoutineFault::TwoWays {
                 from,

@@ -7,12 +7,17 @@ ghost use Rattle.routine.specs.Kept.{tables_prog};
 use super::Tables;
 use crate::filling::{acts, all_going, all_rows};
 use crate::starts::starts;
+use locks::facts::FactCount;
 use std::alloc::{AllocError, Global};
 use tree::tree::Tree;
 
 impl Tables {
-    pub(crate) fn new(heap: Global, tree: Tree, root: u16, facts: u8) -> Result<Tables, AllocError>
-        requires few { facts ≤ 12 }
+    pub(crate) fn new(
+        heap: Global,
+        tree: Tree,
+        root: u16,
+        facts: FactCount,
+    ) -> Result<Tables, AllocError>
         requires short { words (prog_at tree root) ≤ 63 }
         requires named { names_below facts (prog_at tree root) ≡ true }
         ensures { IfOk result (λ t. (tables_prog t ≡ prog_at tree root) × (t.facts ≡ facts)) }

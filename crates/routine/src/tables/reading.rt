@@ -5,8 +5,8 @@ ghost use Rattle.routine.specs.Kept.{tables_prog};
 
 use super::Tables;
 use crate::after::NO_ACT;
-use crate::condition::valuations;
 use crate::row::Row;
+use crate::set::PointSet;
 use tree::tree::Tree;
 
 impl Tables {
@@ -21,10 +21,9 @@ impl Tables {
     pub(crate) fn word(&self, point: u32) -> u8
         ensures { result ≡ word (tables_prog self.now) point }
     {
-        if (point as usize) < self.acts.len() {
-            self.acts[point as usize]
-        } else {
-            NO_ACT
+        match self.acts.get(point as usize) {
+            Some(act) => *act,
+            None => NO_ACT,
         }
     }
 
@@ -33,13 +32,13 @@ impl Tables {
         ensures { IsRow (tables_prog self.now) (valued valuation) point result }
     {
         let count = self.acts.len();
-        let number = valuation % valuations(self.facts);
+        let number = valuation % self.facts.valuations();
         if (point as usize) < count {
             self.rows[number as usize * count + point as usize]
         } else {
             Row {
                 stop: false,
-                next: 0,
+                next: PointSet::EMPTY,
             }
         }
     }

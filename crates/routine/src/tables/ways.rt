@@ -5,49 +5,48 @@ ghost use Rattle.routine.specs.Kept.{tables_prog};
 ghost use Rattle.routine.specs.Found.{FoundSecond, FoundPair, found_ways};
 
 use super::Tables;
-use crate::condition::valuations;
-use crate::set::{common, contains, single, union};
+use crate::set::PointSet;
 
 impl Tables {
     // The points with the same act word before them as this one.
-    fn alike(&self, point: u8) -> u64
+    fn alike(&self, point: u8) -> PointSet
         ensures { Holds result (λ k. nat_lt k (points (tables_prog self.now)) && word (tables_prog self.now) point == word (tables_prog self.now) k) }
     {
         let act = self.word(point as u32);
-        let mut set = 0;
+        let mut set = PointSet::EMPTY;
         for k in 0..self.points() {
             if act == self.word(k as u32) {
-                set = union(set, single(k));
+                set = set.union(PointSet::single(k));
             }
         }
         set
     }
 
     // The points that come next by the same act as `first`, under one valuation with it.
-    fn together(&self, from: u8, first: u8) -> u64
+    fn together(&self, from: u8, first: u8) -> PointSet
         requires { first < 64 }
         ensures { Holds result (together self.now.facts (tables_prog self.now) from first) }
     {
-        let mut set = 0;
-        for valuation in 0..valuations(self.facts) {
+        let mut set = PointSet::EMPTY;
+        for valuation in 0..self.facts.valuations() {
             let next = self.row(from as u32, valuation).next;
-            if contains(next, first) {
-                set = union(set, next);
+            if next.contains(first) {
+                set = set.union(next);
             }
         }
-        common(set, self.alike(first))
+        set.common(self.alike(first))
     }
 
     // The points that go on under one valuation with `first`.
-    fn go_on_together(&self, first: u8) -> u64
+    fn go_on_together(&self, first: u8) -> PointSet
         requires { first < 64 }
         ensures { Holds result (go_on_together self.now.facts (tables_prog self.now) first) }
     {
-        let mut set = 0;
-        for valuation in 0..valuations(self.facts) {
+        let mut set = PointSet::EMPTY;
+        for valuation in 0..self.facts.valuations() {
             let going = self.going[valuation as usize];
-            if contains(going, first) {
-                set = union(set, going);
+            if going.contains(first) {
+                set = set.union(going);
             }
         }
         set
@@ -58,36 +57,30 @@ impl Tables {
         requires { first < points (tables_prog self.now) }
         ensures { FoundSecond (points (tables_prog self.now)) (two_ways_at self.now.facts (tables_prog self.now) from first) result }
     {
-        let both = common(self.together(from, first), self.go_on_together(first));
-        for second in first + 1..self.points() {
-            if contains(both, second) {
-                return Some(second);
-            }
-        }
-        None
+        let both = self
+            .together(from, first)
+            .common(self.go_on_together(first));
+        (0..self.points()).find(|second| first < *second && both.contains(*second))
     }
 
     // The lowest two ways from a point.
     fn ways_from(&self, from: u8) -> Option<(u8, u8)>
         ensures { FoundPair (points (tables_prog self.now)) (two_ways_at self.now.facts (tables_prog self.now) from) result }
     {
-        for first in 0..self.points() {
-            if let Some(second) = self.second_way(from, first) {
-                return Some((first, second));
-            }
-        }
-        None
+        (0..self.points())
+            .filter_map(|first| self.second_way(from, first).map(|second| (first, second)))
+            .next()
     }
 
     // The lowest two ways.
     pub(crate) fn ways(&self) -> Option<(u8, u8, u8)>
         ensures { ways self.now.facts (tables_prog self.now) ≡ found_ways result }
     {
-        for from in 0..self.points() {
-            if let Some((first, second)) = self.ways_from(from) {
-                return Some((from, first, second));
-            }
-        }
-        None
+        (0..self.points())
+            .filter_map(|from| {
+                self.ways_from(from)
+                    .map(|(first, second)| (from, first, second))
+            })
+            .next()
     }
 }

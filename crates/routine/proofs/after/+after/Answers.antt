@@ -1,5 +1,6 @@
 use Rattle.std.proofs.Common.{suc, false, eqb, get_or, sym, subst, rules}
 use Rattle.tree.specs.Held.{prog_at, cond_at}
+use Rattle.routine.specs.Sets.{no_points}
 use Rattle.routine.specs.Rows.{IsRow, no_start}
 use Rattle.routine.specs.declared.row.Row.{Row}
 use Rattle.routine.proofs.Entries.{prog_is}
@@ -8,13 +9,13 @@ use Rattle.routine.proofs.after.+after.Goals as goal
 
 pub returns-in-Act : goal.returns-in-Act
 returns-in-Act t c v known =
-    let r : Row = record { stop = eqb c.args.word 0; next = 0 } in
+    let r : Row = record { stop = eqb c.args.word 0; next = no_points } in
     subst (λ δ. IsRow δ v (suc c.args.word) r) (prog_is c.args.tree.now c.args.i _ c.in-Act.ensures.is)
     (after_act c.in-Act.field-0 v c.args.word _ (search rules))
 
 pub returns-in-Test : goal.returns-in-Test
 returns-in-Test t c v known =
-    let r : Row = record { stop = false; next = 0 } in
+    let r : Row = record { stop = false; next = no_points } in
     subst (λ δ. IsRow δ v (suc c.args.word) r) (prog_is c.args.tree.now c.args.i _ c.in-Test.ensures.is)
     (after_test (cond_at c.args.tree.now c.in-Test.field-0) v c.args.word)
 

@@ -1,6 +1,7 @@
 use Rattle.std.proofs.Common.{true, false, get_or, subst, rules}
 use Rattle.golog.specs.Points.{valuation}
 use Rattle.tree.specs.Held.{prog_at, cond_at}
+use Rattle.routine.specs.Sets.{no_points}
 use Rattle.routine.specs.Rows.{IsStart, no_start}
 use Rattle.routine.specs.declared.row.Start.{Start}
 use Rattle.routine.proofs.Entries.{prog_is}
@@ -9,12 +10,12 @@ use Rattle.routine.proofs.starts.start.Goals as goal
 
 pub returns-in-Act : goal.returns-in-Act
 returns-in-Act c =
-    let s : Start = record { words = 1; row = record { stop = false; next = 2 } } in
-    subst (λ δ. IsStart δ (valuation c.args.valuation) s) (prog_is c.args.tree.now c.args.i _ c.in-Act.ensures.is) (start_act c.in-Act.field-0 (valuation c.args.valuation))
+    let s : Start = record { words = 1; row = record { stop = false; next = c.single.result } } in
+    subst (λ δ. IsStart δ (valuation c.args.valuation) s) (prog_is c.args.tree.now c.args.i _ c.in-Act.ensures.is) (start_act c.in-Act.field-0 (valuation c.args.valuation) c.single.result c.single.ensures)
 
 pub returns-in-Test : goal.returns-in-Test
 returns-in-Test c =
-    let s : Start = record { words = 0; row = record { stop = c.value.result; next = 0 } } in
+    let s : Start = record { words = 0; row = record { stop = c.value.result; next = no_points } } in
     subst (λ δ. IsStart δ (valuation c.args.valuation) s) (prog_is c.args.tree.now c.args.i _ c.in-Test.ensures.is)
     (start_test (cond_at c.args.tree.now c.in-Test.c) (valuation c.args.valuation) c.value.result c.value.ensures)
 

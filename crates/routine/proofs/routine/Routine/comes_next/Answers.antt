@@ -9,13 +9,13 @@ use Rattle.routine.proofs.routine.Routine.comes_next.Goals as goal
 pub returns-then-to-lt64 : goal.returns-then-to-lt64
 returns-then-to-lt64 c = record {
   is = c.contains.ensures ∙ c.row.ensures.1 c.args.to c.if-to-lt64.true;
-  steps = bridge (kept_prog c.args.self.now.kept) (valuation c.args.valuation) c.args.from;
+  steps = bridge (kept_prog c.args.self.now.tables) (valuation c.args.valuation) c.args.from;
 }
 
 pub returns-else-to-lt64 : goal.returns-else-to-lt64
 returns-else-to-lt64 c = record {
   is =
       le-ltb c.args.to 64 c.if-to-lt64.false
-      ∙ sym (next_far (kept_prog c.args.self.now.kept) (valuation c.args.valuation) c.args.from c.args.to (omega (arith, kept_few c.args.self.now.kept, c.if-to-lt64.false)));
-  steps = bridge (kept_prog c.args.self.now.kept) (valuation c.args.valuation) c.args.from;
+      ∙ sym (next_far (kept_prog c.args.self.now.tables) (valuation c.args.valuation) c.args.from c.args.to (omega (arith, kept_few c.args.self.now.tables, c.if-to-lt64.false)));
+  steps = bridge (kept_prog c.args.self.now.tables) (valuation c.args.valuation) c.args.from;
 }

@@ -8,4 +8,4 @@ use Rattle.routine.proofs.routine.Routine.goes_on.Goals as goal
 pub returns : goal.returns
 returns c =
     c.goes_on.ensures
-    ∙ row_goes_on (kept_prog c.args.self.now.kept) (valuation c.args.valuation) c.args.point c.row.result (kept_few c.args.self.now.kept) c.row.ensures
+    ∙ row_goes_on (kept_prog c.args.self.now.tables) (valuation c.args.valuation) c.args.point c.row.result (kept_few c.args.self.now.tables) c.row.ensures

@@ -1,7 +1,7 @@
 use Rattle.std.proofs.Common.{◌≡◌, ℕ, ◌<◌, Bool, length, get_or, vec_items, sym, ap, ◌∙◌, arith}
 use Rattle.std.proofs.lemmas.List.{get_or_read}
 use Rattle.golog.specs.Points.{goes_on, valuation}
-use Rattle.routine.specs.Sets.{has}
+use Rattle.routine.specs.Sets.{has, no_points}
 use Rattle.routine.specs.Kept.{tables_prog}
 use Rattle.routine.proofs.Unions.{joined_more, left_out}
 use Rattle.routine.proofs.tables.Tables.go_on_together.Goals as goal
@@ -16,7 +16,7 @@ loop-valuation-preserved c j h =
     let v = c.loop-valuation.valuation in
     let g = c.index-going.result.now in
     let l : v < length (vec_items t.going) = omega (arith, t.long) in
-    let e : g ≡ get_or (vec_items t.going) v 0 = get_or_read (vec_items t.going) v g l c.index-going.ensures 0 in
+    let e : g ≡ get_or (vec_items t.going) v no_points = get_or_read (vec_items t.going) v g l c.index-going.ensures no_points in
     let first : c.contains.result ≡ a v = c.contains.ensures ∙ (ap (λ s. has s c.args.first) e ∙ t.onward v c.args.first (l, c.requires)) in
     elim c.if-contains.branch [
       | then-contains w ↦

@@ -19,4 +19,4 @@ invariant_of-result c =
     start_count c.args.tree (valuation 0) (vec_items c.in_ok-starts.starts) c.args.root c.index.result.now
     c.in_ok-starts.ensures.0 c.in_ok-starts.ensures.1 c.index.ensures c.requires.short in
     let rows = c.in_ok-rows.ensures.0 in
-    let lent : RowsOf δ c.as_slice-2.result.now = subst (RowsOf δ) (sym c.as_slice-2.ensures.value) rows in record { few = lt-ltb c.args.facts 13 (omega (arith, c.requires.few)); short = lt-ltb (words δ) 64 (omega (arith, c.requires.short)); named = c.requires.named; worded = c.in_ok-acts.ensures; stops = (λ i h. (rows i h).0); nexts = (λ i j h. (rows i h.0).1 j h.1); wide = c.in_ok-rows.ensures.1 ∙ ap (λ n. 2 ^ c.args.facts * n) e; onward = c.in_ok-going.ensures.1 δ lent e; long = c.in_ok-going.ensures.0 }
+    let lent : RowsOf δ c.as_slice-2.result.now = subst (RowsOf δ) (sym c.as_slice-2.ensures.value) rows in record { short = lt-ltb (words δ) 64 (omega (arith, c.requires.short)); named = c.requires.named; worded = c.in_ok-acts.ensures; stops = (λ i h. (rows i h).0); nexts = (λ i j h. (rows i h.0).1 j h.1); wide = c.in_ok-rows.ensures.1 ∙ ap (λ n. 2 ^ c.args.facts * n) e; onward = c.in_ok-going.ensures.1 δ lent e; long = c.in_ok-going.ensures.0 }

@@ -13,12 +13,12 @@ loop-valuation-preserved c j h =
     let a : ℕ → Bool = λ n. next δ (valuation n) c.args.from c.args.first in
     let b : ℕ → Bool = λ n. next δ (valuation n) c.args.from j in
     let v = c.loop-valuation.valuation in
-    let first : c.contains.result ≡ a v = c.contains.ensures ∙ c.row-next.ensures.1 c.args.first c.requires in
+    let first : c.contains.result ≡ a v = c.contains.ensures ∙ c.row.ensures.1 c.args.first c.requires in
     elim c.if-contains.branch [
       | then-contains w ↦
           ap (λ s. has s j) w.set-is
           ∙ (w.union-set.ensures j h
-          ∙ joined_more a b v (has c.loop-valuation.set j) (c.loop-valuation.invariant j h) (has c.row-next.result.next j) (sym first ∙ w.if-contains.true) (c.row-next.ensures.1 j h))
+          ∙ joined_more a b v (has c.loop-valuation.set j) (c.loop-valuation.invariant j h) (has c.row.result.next j) (sym first ∙ w.if-contains.true) (c.row.ensures.1 j h))
       | else-contains w ↦
           ap (λ s. has s j) w.set-is ∙ left_out a b v (has c.loop-valuation.set j) (c.loop-valuation.invariant j h) (sym first ∙ w.if-contains.false)
     ]

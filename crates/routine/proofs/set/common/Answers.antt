@@ -1,5 +1,0 @@
-use Rattle.routine.proofs.Masks.{has_and}
-use Rattle.routine.proofs.set.common.Goals as goal
-
-pub returns : goal.returns
-returns c j h = has_and c.args.a c.args.b j

@@ -1,6 +1,0 @@
-use Rattle.std.proofs.Common.{arith}
-use Rattle.routine.proofs.Going.{some_in_is}
-use Rattle.routine.proofs.set.has_some.Goals as goal
-
-pub returns : goal.returns
-returns c = some_in_is c.args.set (omega arith)

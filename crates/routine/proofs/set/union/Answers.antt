@@ -1,5 +1,0 @@
-use Rattle.routine.proofs.Masks.{has_or}
-use Rattle.routine.proofs.set.union.Goals as goal
-
-pub returns : goal.returns
-returns c j h = has_or c.args.a c.args.b j
