@@ -1,7 +1,8 @@
 // Tries the reader on job files that differ from a good one in one place, and prints the line of each.
 #![tactic(auto)]
 
-use jobfile::jobfile::JobFile;
+use intake::LONGEST;
+use jobfile::jobfile::line_of;
 use std::alloc::{AllocError, Global};
 
 // The small lock with one slip borne, and its routine.
@@ -21,9 +22,6 @@ const LISTED: [u8; 80] = [
     0, 3, 0, 116, 117, 114, 110, 6, 0, 33, 0, 0, 0, 0, 0, 1, 0, 6, 0, 33, 0, 1, 0, 0, 3, 2, 0, 2,
     0, 32, 0, 0, 0, 2, 0, 32, 0, 1, 0, 2, 0, 32, 0, 3, 0, 4, 0, 64, 0, 116, 117, 114, 110,
 ];
-
-// The longest file that the programs take.
-const LONGEST: usize = 16_384;
 
 // How a file differs from the good one.
 #[derive(Clone, Copy)]
@@ -123,10 +121,8 @@ fn edited(heap: Global, good: &[u8], edit: &Edit) -> Result<Vec<u8>, AllocError>
         Edit::Keep => {}
         Edit::Cut(n) => file.truncate(*n),
         Edit::Put(at, bytes) => {
-            for (i, b) in bytes.iter().enumerate() {
-                if let Some(place) = file.get_mut(at.saturating_add(i)) {
-                    *place = *b;
-                }
+            for (place, b) in file.iter_mut().skip(*at).zip(bytes.iter()) {
+                *place = *b;
             }
         }
         Edit::Behind(bytes) => file.extend_from_slice(bytes)?,
@@ -134,20 +130,11 @@ fn edited(heap: Global, good: &[u8], edit: &Edit) -> Result<Vec<u8>, AllocError>
     Ok(file)
 }
 
-// The line of a file.
-fn line(heap: Global, file: &[u8]) -> Result<String, AllocError> {
-    let mut job = JobFile::empty(heap);
-    match job.read_at_most(heap, file, LONGEST) {
-        Ok(()) => job.line(heap),
-        Err(fault) => fault.line(heap),
-    }
-}
-
 fn try_edits(rt: &HostRuntime, good: &[u8], edits: &[(&str, Edit)]) -> anyhow::Result<()> {
     let heap = rt.alloc();
     for (what, edit) in edits.iter() {
         let file = edited(heap, good, edit)?;
-        println!(rt; "{what}: {}", line(heap, file.as_slice())?)?;
+        println!(rt; "{what}: {}", line_of(heap, file.as_slice(), LONGEST)?)?;
     }
     Ok(())
 }
@@ -157,7 +144,7 @@ fn try_lengths(rt: &HostRuntime) -> anyhow::Result<()> {
     let heap = rt.alloc();
     for n in [LONGEST, LONGEST + 1] {
         let file = vec![in heap; 0u8; n]?;
-        println!(rt; "{n} bytes of 0: {}", line(heap, file.as_slice())?)?;
+        println!(rt; "{n} bytes of 0: {}", line_of(heap, file.as_slice(), LONGEST)?)?;
     }
     Ok(())
 }

@@ -8,6 +8,7 @@ use std::alloc::AllocError;
 use text::fault::TextFault;
 
 mod telling;
+mod wording;
 
 // Why a job file is refused.
 #[derive(Clone, Copy)]

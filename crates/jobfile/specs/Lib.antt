@@ -3,3 +3,4 @@ pub mod Format
 pub mod Refused
 pub mod Heard
 pub mod Held
+pub mod Told

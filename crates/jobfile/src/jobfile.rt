@@ -5,6 +5,9 @@ use words::names::Names;
 
 mod holding;
 mod reading;
+mod telling;
+
+pub use telling::line_of;
 
 // A job file that was read: its lock, the names of facts and acts, the marks and the allowance, the routine's text, and the routine.
 #[derive(Drop)]

@@ -18,7 +18,7 @@ use Rattle.std.proofs.lemmas.List.FromFn.{map-range_with_len_more, length-range_
 use Rattle.locks.specs.Meaning.{any_below}
 
 -- the numbers below n, and then n
-one_more : (n : ℕ) → range_with_len 0 (suc n) ≡ range_with_len 0 n ++ n ∷ []
+pub one_more : (n : ℕ) → range_with_len 0 (suc n) ≡ range_with_len 0 n ++ n ∷ []
 one_more n =
     ap (range_with_len 0) (sym (add-one n)) ∙ (sym (map-id _) ∙ (map-range_with_len_more (λ (x : ℕ). x) 0 n n (omega arith)
     ∙ ap (λ (xs : List ℕ). xs ++ n ∷ []) (map-id _)))

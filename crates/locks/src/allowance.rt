@@ -6,6 +6,7 @@ ghost use Rattle.locks.specs.AllowanceLaws.{allowance_sound, allowance_lively};
 
 use crate::lock::{LiveLock, Lock, MOST_STATES, REACTIONS};
 use crate::marks::Marks;
+use std::fmt;
 
 // The most marked reactions that an allowance may bear.
 pub const MOST_BORNE: u8 = 7;
@@ -15,6 +16,15 @@ pub const MOST_BORNE: u8 = 7;
 pub enum LayerFault {
     Allowance(u8),
     States(u32),
+}
+
+impl fmt::Display for LayerFault {
+    fn fmt<W: fmt::Write>(&self, f: &mut fmt::Formatter<W>) -> fmt::Result {
+        f.write_str(match self {
+            LayerFault::Allowance(_) => "the allowance is above 7",
+            LayerFault::States(_) => "the layer has more than 32768 states",
+        })
+    }
 }
 
 // A refused making hands the lower lock back.

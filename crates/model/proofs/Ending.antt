@@ -1,7 +1,11 @@
 -- What is tried at the end of a file: numbers below a bound, and the lock as its records say it.
-use Rattle.std.proofs.Common.{◌≡◌, ℕ, zero, suc, ◌^◌, ◌<◌, Bool, true, false, List, [], ◌∷◌, get_or, Some, None, Option, unwrap_or, sym, refl, ap, ◌∙◌, subst, ap₂, inl, inr, arith, ltb-true, eq-eqb, ne_eqb}
+use Rattle.std.proofs.Common.{◌≡◌, ℕ, zero, suc, ◌^◌, ◌<◌, Bool, true, false, ◌&&◌, List, [], ◌∷◌, get_or, Some, None, Option, unwrap_or, sym, refl, ap, ◌∙◌, subst, ap₂, inl, inr, arith, ltb-true, eq-eqb, ne_eqb}
 use borrow.Author.Tests.{clash}
-use Rattle.std.proofs.lemmas.Bool.{cases_eq, cases_Bool, cond-true, cond-false, and_from, and_left, and_right, and_parts, not_from_true}
+use Rattle.std.specs.List.{list_all, range_with_len}
+use Rattle.std.proofs.Math.Bool.{and_comm, and-true}
+use Rattle.std.proofs.lemmas.List.Folds.{list_all-append}
+use Rattle.locks.proofs.Searches.{one_more}
+use Rattle.std.proofs.lemmas.Bool.{cases_eq, cases_Bool, cond-true, cond-false, and_left, and_right, and_parts, not_from_true}
 use Rattle.items.specs.declared.item.Header.{Header}
 use Rattle.locks.specs.declared.allowance.LayerFault.{LayerFault}
 use Rattle.locks.specs.declared.marks.Marks.{Marks}
@@ -19,17 +23,13 @@ use Rattle.model.specs.Contents.{Contents, marked_of, first_of, borne, lowest_sa
 use Rattle.model.specs.Closing.{all_below, or_here, lowest_below, or_stuck, stuck_below, first_stuck, lacking, closing, closing_live, closing_layer}
 use Rattle.model.specs.Stands.{LowestStands}
 
-pub all_pass : (n : ℕ) (p : ℕ → Bool) → ((k : ℕ) → k < n → p k ≡ true) → all_below n p ≡ true
-all_pass zero p h = refl
-all_pass (suc n) p h = and_from (p n) (all_below n p) (h n (omega arith)) (all_pass n p (λ k l. h k (omega arith)))
-
-pub one_fails : (n : ℕ) (p : ℕ → Bool) (k : ℕ) → k < n → p k ≡ false → all_below n p ≡ false
-one_fails zero p k l e = let z : ⊥ = omega arith in absurd z
-one_fails (suc n) p k l e =
-    elim (cases_eq k n) [
-      | inl same ↦ and_left (p n) (all_below n p) (subst (λ j. p j ≡ false) same e)
-      | inr other ↦ and_right (p n) (all_below n p) (one_fails n p k (omega arith) e)
-    ]
+-- all of the numbers below n pass
+pub all_of_range : (n : ℕ) (p : ℕ → Bool) → list_all p (range_with_len 0 n) ≡ all_below n p
+all_of_range zero p = refl
+all_of_range (suc n) p =
+    ap (list_all p) (one_more n)
+    ∙ (list_all-append p (range_with_len 0 n) (n ∷ [])
+    ∙ (and_comm (list_all p (range_with_len 0 n)) (p n && true) ∙ ap₂ ◌&&◌ (and-true (p n)) (all_of_range n p)))
 
 -- the lowest number that passes, where none does and where one does
 none_passes : (n : ℕ) (p : ℕ → Bool) → ((k : ℕ) → k < n → p k ≡ false) → lowest_below n p ≡ None

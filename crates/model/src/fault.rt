@@ -5,6 +5,7 @@ use locks::allowance::LayerFault;
 use locks::stuck;
 use records::RecordFault;
 use std::alloc::AllocError;
+use std::fmt;
 
 // What is wrong with the model of a job file. Offsets are those of the file.
 #[derive(Clone, Copy)]
@@ -61,5 +62,23 @@ impl From<LayerFault> for ModelFault {
 
     fn from(e: LayerFault) -> ModelFault {
         ModelFault::Layer(e)
+    }
+}
+
+impl fmt::Display for ModelFault {
+    fn fmt<W: fmt::Write>(&self, f: &mut fmt::Formatter<W>) -> fmt::Result {
+        match self {
+            ModelFault::Record(inner) => write!(f, "{inner}"),
+            ModelFault::Field(_) => f.write_str("the field is out of its range"),
+            ModelFault::BadName(_) => f.write_str("this is not a name"),
+            ModelFault::SameName(_) => f.write_str("the name stands there twice"),
+            ModelFault::TooOften(_) => f.write_str("the record is there once too often"),
+            ModelFault::Missing(_) => f.write_str("a record is missing"),
+            ModelFault::Stuck { .. } => f.write_str(
+                "an act is allowed in a state and has no reaction there",
+            ),
+            ModelFault::Layer(inner) => write!(f, "{inner}"),
+            ModelFault::Memory => f.write_str("there is no memory for what the file says"),
+        }
     }
 }

@@ -12,6 +12,7 @@ ghost use Rattle.items.specs.declared.item.Header.{Header as Head};
 
 use super::fault::ModelFault;
 use items::item::{Header, Item};
+use items::kind::Form;
 use lowest::facts::{Change, FactLock, Rule};
 use lowest::listed::ListedLock;
 use lowest::lowest::Lowest;
@@ -22,45 +23,38 @@ pub(crate) fn open(heap: Global, head: &Header) -> Result<Lowest, ModelFault>
     requires { head_field head.now ≡ None }
     ensures { MatchResult result (λ l. LowestStands l head.now silence) (λ f. f ≡ ModelFault.Memory) }
 {
-    let first = head.first as u32;
-    if head.form == 1 {
-        match FactLock::new(heap, head.facts, head.acts, first) {
-            Ok(lock) => Ok(Lowest::Facts(lock)),
-            Err(_) => Err(ModelFault::Memory),
-        }
+    let first = u32::from(head.first);
+    if Form::try_from(head.form) == Ok(Form::Facts) {
+        let lock = FactLock::new(heap, head.facts, head.acts, first).map_err(
+            |_| ModelFault::Memory,
+        )?;
+        Ok(Lowest::Facts(lock))
     } else {
-        match ListedLock::new(heap, head.facts, head.acts, first, head.states as u32) {
-            Ok(lock) => Ok(Lowest::Listed(lock)),
-            Err(_) => Err(ModelFault::Memory),
-        }
+        let states = u32::from(head.states);
+        let lock = ListedLock::new(heap, head.facts, head.acts, first, states).map_err(
+            |_| ModelFault::Memory,
+        )?;
+        Ok(Lowest::Listed(lock))
     }
 }
 
+// What a lock holds of what was said. That it stands is a relation and no view of the lock: its tables forget the order of the records.
 pub(crate) fn has_rule(lowest: &Lowest, act: u8) -> bool
     ensures { (h : Head) (c : Contents) → LowestStands lowest.now h c → result ≡ is_some (rule_of c.rules act) }
 {
-    match lowest {
-        Lowest::Facts(lock) => lock.rule(act).is_some(),
-        _ => false,
-    }
+    matches!(lowest, Lowest::Facts(lock) if lock.rule(act).is_some())
 }
 
 pub(crate) fn has_change(lowest: &Lowest, act: u8, reaction: u8) -> bool
     ensures { (h : Head) (c : Contents) → LowestStands lowest.now h c → result ≡ is_some (change_of c.changes act reaction) }
 {
-    match lowest {
-        Lowest::Facts(lock) => lock.change(act, reaction).is_some(),
-        _ => false,
-    }
+    matches!(lowest, Lowest::Facts(lock) if lock.change(act, reaction).is_some())
 }
 
 pub(crate) fn has_move(lowest: &Lowest, from: u16, act: u8, reaction: u8) -> bool
     ensures { (h : Head) (c : Contents) → LowestStands lowest.now h c → result ≡ is_some (move_of c.moves from act reaction) }
 {
-    match lowest {
-        Lowest::Listed(lock) => lock.move_to(from as u32, act, reaction).is_some(),
-        _ => false,
-    }
+    matches!(lowest, Lowest::Listed(lock) if lock.move_to(u32::from(from), act, reaction).is_some())
 }
 
 // How many states are listed.
@@ -76,45 +70,33 @@ pub(crate) fn listed(lowest: &Lowest) -> u32
 pub(crate) fn add_rule(lowest: &mut Lowest, act: u8, added: Rule)
     ensures { (h : Head) (c : Contents) → LowestStands lowest.old h c → Fit h c (rule act added.need added.lack) → LowestStands lowest.new h (with_item c (rule act added.need added.lack)) }
 {
-    match lowest {
-        Lowest::Facts(lock) => {
-            let _ = lock.add_rule(act, added);
-        }
-        _ => {}
+    if let Lowest::Facts(lock) = lowest {
+        let _ = lock.add_rule(act, added);
     }
 }
 
 pub(crate) fn add_change(lowest: &mut Lowest, act: u8, reaction: u8, added: Change)
     ensures { (h : Head) (c : Contents) → LowestStands lowest.old h c → Fit h c (change act reaction added.need added.lack added.set added.clear) → LowestStands lowest.new h (with_item c (change act reaction added.need added.lack added.set added.clear)) }
 {
-    match lowest {
-        Lowest::Facts(lock) => {
-            let _ = lock.add_change(act, reaction, added);
-        }
-        _ => {}
+    if let Lowest::Facts(lock) = lowest {
+        let _ = lock.add_change(act, reaction, added);
     }
 }
 
 pub(crate) fn add_state(lowest: &mut Lowest, valuation: u16) -> Result<(), ModelFault>
     ensures { MatchResult result (λ _. (h : Head) (c : Contents) → LowestStands lowest.old h c → Fit h c (state valuation) → LowestStands lowest.new h (with_item c (state valuation))) (λ f. f ≡ ModelFault.Memory) }
 {
-    match lowest {
-        Lowest::Listed(lock) => match lock.add_state(valuation) {
-            Ok(()) => Ok(()),
-            Err(_) => Err(ModelFault::Memory),
-        },
-        _ => Ok(()),
+    if let Lowest::Listed(lock) = lowest {
+        lock.add_state(valuation).map_err(|_| ModelFault::Memory)?;
     }
+    Ok(())
 }
 
 pub(crate) fn add_move(lowest: &mut Lowest, from: u16, act: u8, reaction: u8, after: u16)
     ensures { (h : Head) (c : Contents) → LowestStands lowest.old h c → Fit h c (move from act reaction after) → LowestStands lowest.new h (with_item c (move from act reaction after)) }
 {
-    match lowest {
-        Lowest::Listed(lock) => {
-            let _ = lock.add_move(from as u32, act, reaction, after as u32);
-        }
-        _ => {}
+    if let Lowest::Listed(lock) = lowest {
+        let _ = lock.add_move(u32::from(from), act, reaction, u32::from(after));
     }
 }
 
@@ -160,12 +142,7 @@ pub(crate) fn enter(lowest: &mut Lowest, item: Item<'_>) -> Result<(), ModelFaul
 fn all_ruled(lock: &FactLock, acts: u8) -> bool
     ensures { result ≡ all_below acts (λ a. is_some (rule_in (fact_rules lock.now) a)) }
 {
-    for act in 0..acts {
-        if lock.rule(act).is_none() {
-            return false;
-        }
-    }
-    true
+    (0..acts).all(|act| lock.rule(act).is_some())
 }
 
 // Whether a rule of an act, or a state, never came.
@@ -175,6 +152,6 @@ pub(crate) fn lacks(lowest: &Lowest, head: &Header) -> bool
     match lowest {
         Lowest::Empty => false,
         Lowest::Facts(lock) => !all_ruled(lock, head.acts),
-        Lowest::Listed(lock) => lock.listed() < head.states as u32,
+        Lowest::Listed(lock) => lock.listed() < u32::from(head.states),
     }
 }

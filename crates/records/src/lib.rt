@@ -5,6 +5,8 @@ ghost use Rattle.std.specs.Prelude.{◌≡◌, ℕ, ◌+◌, ◌*◌, ◌<◌, �
 ghost use Rattle.records.specs.Split.{front, two_bytes};
 ghost use Rattle.records.specs.Split.Front.{cut, whole};
 
+use std::fmt;
+
 // What is wrong with a record as such, with the offset at which the record begins.
 #[derive(Clone, Copy)]
 pub enum RecordFault {
@@ -20,6 +22,19 @@ pub enum RecordFault {
     OutOfOrder(usize),
     // The kind has another length.
     WrongLength(usize),
+}
+
+impl fmt::Display for RecordFault {
+    fn fmt<W: fmt::Write>(&self, f: &mut fmt::Formatter<W>) -> fmt::Result {
+        f.write_str(match self {
+            RecordFault::Cut(_) => "the record is cut short",
+            RecordFault::NoHead(_) => "the first record is no head",
+            RecordFault::UnknownKind(_) => "no record has this kind",
+            RecordFault::OtherForm(_) => "the record is of the other form of lock",
+            RecordFault::OutOfOrder(_) => "the record stands behind a later group",
+            RecordFault::WrongLength(_) => "the record has the wrong length",
+        })
+    }
 }
 
 // A record with its offset, and the bytes behind it, all as parts of the file.

@@ -4,6 +4,7 @@ ghost use Rattle.routine.specs.declared.fault.RoutineFault.TheVariants.{Memory};
 use std::alloc::AllocError;
 
 mod telling;
+mod wording;
 
 // Why no routine is made of a program.
 #[derive(Clone, Copy)]

@@ -1,58 +1,54 @@
-use super::Failure;
-use super::listing::name;
-use jobfile::jobfile::JobFile;
-use locks::lock::Lock;
+use super::page::Page;
+use intake::Failure;
+use locks::lock::{Lock, MOST_FACTS};
 use routine::routine::Routine;
 
-// How often a point may stop over all valuations.
-fn stops(rt: &HostRuntime, routine: &Routine, point: u32, valuations: u32) -> Result<(), Failure> {
-    let mut count: u32 = 0;
-    for v in 0..valuations {
-        if routine.may_stop(point, v) {
-            count = count.saturating_add(1);
-        }
-    }
-    if count == valuations {
-        print!(rt; " may stop")?;
-    } else if count > 0 {
-        print!(rt; " may stop under some facts")?;
-    }
-    Ok(())
+// How many valuations the facts of the lock have.
+fn valuations(lock: &impl Lock) -> u32 {
+    1u32 << lock.facts().min(MOST_FACTS)
 }
 
-// Whether a point comes next from another under some valuation.
-fn ever_next(routine: &Routine, point: u32, next: u32, valuations: u32) -> bool {
-    for v in 0..valuations {
-        if routine.comes_next(point, next, v) {
-            return true;
+impl Page<'_> {
+    // How often a point may stop over all valuations.
+    fn stops(self, point: u32) -> Result<(), Failure> {
+        let (rt, routine) = (self.rt, self.job.routine());
+        let all = valuations(self.job.lock());
+        let stopping = (0..all).filter(|v| routine.may_stop(point, *v)).count();
+        if stopping == all as usize {
+            print!(rt; " may stop")?;
+        } else if stopping > 0 {
+            print!(rt; " may stop under some facts")?;
         }
+        Ok(())
     }
-    false
-}
 
-fn point(rt: &HostRuntime, job: &JobFile, at: u32, valuations: u32) -> Result<(), Failure> {
-    let routine = job.routine();
-    print!(rt; "  point {at}:")?;
-    stops(rt, routine, at, valuations)?;
-    for next in 0..routine.points() as u32 {
-        if ever_next(routine, at, next, valuations) {
+    // Whether a point comes next from another under some valuation.
+    fn ever_next(self, point: u32, next: u32) -> bool {
+        let routine = self.job.routine();
+        (0..valuations(self.job.lock())).any(|v| routine.comes_next(point, next, v))
+    }
+
+    fn point(self, at: u32) -> Result<(), Failure> {
+        let (rt, routine) = (self.rt, self.job.routine());
+        print!(rt; "  point {at}:")?;
+        self.stops(at)?;
+        for next in (0..routine.points() as u32).filter(|next| self.ever_next(at, *next)) {
             print!(rt; " ")?;
-            name(rt, job.acts(), routine.word(next))?;
+            self.act(routine.word(next))?;
             print!(rt; " to {next}")?;
         }
+        println!(rt; "")?;
+        Ok(())
     }
-    println!(rt; "")?;
-    Ok(())
-}
 
-// For each point, whether it may stop and which act words may come next.
-pub(crate) fn print(rt: &HostRuntime, job: &JobFile) -> Result<(), Failure> {
-    let points = job.routine().points() as u32;
-    println!(rt; "points {points}")?;
-    let facts = job.lock().facts();
-    let valuations = if facts <= 12 { 1u32 << facts } else { 4096 };
-    for at in 0..points {
-        point(rt, job, at, valuations)?;
+    // For each point, whether it may stop and which act words may come next.
+    pub(crate) fn next_points(self) -> Result<(), Failure> {
+        let rt = self.rt;
+        let points = self.job.routine().points() as u32;
+        println!(rt; "points {points}")?;
+        for at in 0..points {
+            self.point(at)?;
+        }
+        Ok(())
     }
-    Ok(())
 }

@@ -4,6 +4,7 @@ ghost use Rattle.text.specs.declared.fault.TextFault.TheVariants.{Word, Memory};
 use tree::tree::growing::Unadded;
 
 mod telling;
+mod wording;
 
 // Why a word is refused wherever it stands: what stands at the offset is no word of any routine.
 #[derive(Clone, Copy)]

@@ -1,8 +1,8 @@
 // Tries the reader on routines for the small lock, and prints the line of each. The file that is named holds the lock, up to its routine.
 #![tactic(auto)]
 
-use intake::take_in;
-use jobfile::jobfile::JobFile;
+use intake::{LONGEST, take_in};
+use jobfile::jobfile::line_of;
 use std::alloc::{AllocError, Global};
 use std::env;
 
@@ -96,19 +96,11 @@ fn spelt(heap: Global, text: &Text) -> Result<Vec<u8>, AllocError> {
 // The lock's records, and behind them the routine's.
 fn file_of(heap: Global, model: &[u8], text: &[u8]) -> Result<Vec<u8>, AllocError> {
     let mut file = Vec::from_slice(heap, model)?;
-    let low = (text.len() % 256) as u8;
-    let high = (text.len() / 256 % 256) as u8;
-    file.extend_from_slice(&[low, high, 0x40, 0])?;
+    let length = (text.len() % 65_536) as u16;
+    file.extend_from_slice(&length.to_le_bytes())?;
+    file.extend_from_slice(&[0x40, 0])?;
     file.extend_from_slice(text)?;
     Ok(file)
-}
-
-fn line(heap: Global, file: &[u8]) -> Result<String, AllocError> {
-    let mut job = JobFile::empty(heap);
-    match job.read(heap, file) {
-        Ok(()) => job.line(heap),
-        Err(fault) => fault.line(heap),
-    }
 }
 
 fn try_texts(rt: &HostRuntime, model: &[u8], texts: &[(&str, Text)]) -> anyhow::Result<()> {
@@ -116,19 +108,14 @@ fn try_texts(rt: &HostRuntime, model: &[u8], texts: &[(&str, Text)]) -> anyhow::
     for (what, text) in texts.iter() {
         let bytes = spelt(heap, text)?;
         let file = file_of(heap, model, bytes.as_slice())?;
-        println!(rt; "{what}: {}", line(heap, file.as_slice())?)?;
+        println!(rt; "{what}: {}", line_of(heap, file.as_slice(), LONGEST)?)?;
     }
     Ok(())
 }
 
 fn main(rt: HostRuntime) -> anyhow::Result<()> {
-    let mut args = env::args(&rt)?;
-    let _program = args.next();
-    let path = args.next();
-    let model = match &path {
-        Some(path) => take_in(&rt, Some(path.as_str()))?,
-        None => take_in(&rt, None)?,
-    };
+    let path = env::args(&rt)?.nth(1);
+    let model = take_in(&rt, path.as_deref())?;
     try_texts(&rt, model.as_slice(), &GOOD)?;
     try_texts(&rt, model.as_slice(), &BAD)
 }

@@ -1,4 +1,4 @@
-ghost use Rattle.std.specs.Prelude.{◌≡◌, ℕ, ◌+◌, ◌*◌, IfOk, Some, string_bytes};
+ghost use Rattle.std.specs.Prelude.{◌≡◌, ℕ, ◌+◌, ◌*◌, ◌==◌, IfOk, Some, string_bytes};
 ghost use Rattle.faults.specs.Faults.{record_number, record_place, layer_number, layer_place, model_number, layer_of, model_place, fault_number, fault_layer, fault_place, refusal_line};
 
 use super::FileFault;
@@ -120,6 +120,13 @@ impl FileFault {
             FileFault::Text(inner) => inner.place() as u64,
             FileFault::Routine(inner) => inner.place() as u64,
         }
+    }
+
+    // Whether memory is wanting, which is no fault of the file: it has number 0.
+    pub fn is_memory(self) -> bool
+        ensures { result ≡ (fault_number self == 0) }
+    {
+        self.number() == 0
     }
 
     // The line that tells the refusal.

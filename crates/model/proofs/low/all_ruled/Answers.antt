@@ -1,9 +1,13 @@
-use Rattle.std.proofs.Common.{sym, rules}
-use Rattle.model.proofs.Ending.{all_pass, one_fails}
+use Rattle.std.proofs.Common.{ℕ, is_some, refl, ◌∙◌, rules, tests, arith}
+use Rattle.std.proofs.lemmas.Iterator.{YieldsList-from_range}
+use Rattle.std.proofs.lemmas.Iterator.Search.{all_from_yields_List}
+use Rattle.lowest.specs.Facts.{rule_in}
+use Rattle.lowest.specs.FactViews.{fact_rules}
+use Rattle.model.proofs.Ending.{all_of_range}
 use Rattle.model.proofs.low.all_ruled.Goals as goal
 
-pub returns-then-is_none : goal.returns-then-is_none
-returns-then-is_none c = sym (one_fails c.args.acts _ c.loop-act.act (search rules) (search rules))
-
 pub returns : goal.returns
-returns c = sym (all_pass c.args.acts _ (λ k l. c.loop-act.invariant k (search rules)))
+returns c =
+    let n = c.args.acts in
+    let ruled = λ (a : ℕ). is_some (rule_in (fact_rules c.args.lock.now) a) in
+    all_from_yields_List ruled _ _ c.all.result c.all.ensures.ran (YieldsList-from_range 0 n n refl (omega arith)) (λ x b q k. search (rules, tests)) ∙ all_of_range n ruled

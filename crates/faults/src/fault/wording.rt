@@ -1,0 +1,13 @@
+use super::FileFault;
+use std::fmt;
+
+impl fmt::Display for FileFault {
+    fn fmt<W: fmt::Write>(&self, f: &mut fmt::Formatter<W>) -> fmt::Result {
+        match self {
+            FileFault::TooLong(_) => f.write_str("the file is too long"),
+            FileFault::Model(inner) => write!(f, "{inner}"),
+            FileFault::Text(inner) => write!(f, "{inner}"),
+            FileFault::Routine(inner) => write!(f, "{inner}"),
+        }
+    }
+}
