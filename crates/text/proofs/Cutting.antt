@@ -1,22 +1,19 @@
 -- A text, cut one byte on.
-use Rattle.std.proofs.Common.{◌≡◌, ℕ, suc, ◌+◌, ◌<◌, ◌≤◌, Bool, true, false, List, [], ◌∷◌, ◌++◌, length, get_or, take, drop, sym, refl, ap, ◌∙◌, ap₂, add-one, arith, eq-eqb, ne_eqb}
-use native.Mathlib.Nat.{sub_self}
-use Rattle.std.specs.List.{between}
-use Rattle.std.proofs.lemmas.List.{drop_more, drop_all}
-use Rattle.std.proofs.lemmas.List.Edits.{between_more}
-use Rattle.golog.specs.Words.{Word, Byte, Token, byte_kind, cut, token, run_word}
+use Rattle.std.proofs.Common.{◌-◌, not, cond, ◌==◌, append-nil, append_assoc, length-drop, Bor, map, Some, None, subst, ◌≡◌, ℕ, suc, ◌+◌, ◌<◌, ◌≤◌, Bool, true, false, List, [], ◌∷◌, ◌++◌, length, get_or, take, drop, sym, refl, ap, ◌∙◌, ap₂, add-one, arith, ne_eqb}
+use Rattle.std.proofs.lemmas.Bool.Decides.{nat_tests}
+use Rattle.std.proofs.lemmas.Bool.{true≢false}
+use mathlib.Core.Option.{Option, none, some}
+use Rattle.std.specs.List.{between, prefix_len, find}
+use Rattle.std.specs.Prelude as options
+use Rattle.std.specs.Option.{option_map, MatchOption}
+use Rattle.std.proofs.lemmas.List.{drop_more, drop_all, drop-drop, get_or-drop}
+use Rattle.golog.specs.Words.{Word, Byte, Token, beside, signs, blank, byte_kind, cut, token, run_word}
+use Rattle.golog.specs.Words.Word.{strange}
 use Rattle.golog.specs.Words.Byte.{space, hash, part, lone}
+use Rattle.words.specs.Names.{is_name_byte, same_word}
 use Rattle.golog.specs.Words.Cutting.{gap, comment, run}
-use Rattle.text.specs.declared.lexer.cutting.Kind.{Kind}
-use Rattle.text.specs.declared.lexer.cutting.Kind.TheVariants.{Blank, Hash, Part, Lone}
-use Rattle.text.specs.Said.{said_kind}
-
--- which byte is part of a run
-pub kind_part : (k : Kind) → part ≡ said_kind k → k ≡ Part
-kind_part Blank e = cc
-kind_part Hash e = cc
-kind_part Part e = refl
-kind_part (Lone w) e = cc
+use Rattle.text.specs.Said.{said}
+use Rattle.text.specs.declared.word.Word as told
 
 -- the words from a byte on, by what the byte is: in a comment, between words, and in a run
 abbrev at_comment : Bool → ℕ → List ℕ → List Token
@@ -46,30 +43,117 @@ run_over hash s w o b bs n = refl
 run_over part s w o b bs n = absurd (n refl)
 run_over (lone x) s w o b bs n = refl
 
--- at the end of the text
-pub comment_all : (xs : List ℕ) (i n : ℕ) → length xs ≤ i → length xs ≤ n → cut comment i (drop i xs) ≡ cut gap n (drop n xs)
-comment_all xs i n h l = ap (cut comment i) (drop_all i xs h) ∙ sym (ap (cut gap n) (drop_all n xs l))
+-- a comment goes up to LF or the end of the text
+abbrev pub in_line : ℕ → Bool
+in_line b = not (b == 10)
 
+comment_step : (b : ℕ) (bs : List ℕ) (o : ℕ) (t : Bool) → (b == 10) ≡ t → cut comment (suc o) bs ≡ cut gap (suc o + prefix_len in_line bs) (drop (prefix_len in_line bs) bs) →
+    at_comment t o bs ≡ cut gap (o + cond (not t) (1 + prefix_len in_line bs) 0) (drop (cond (not t) (1 + prefix_len in_line bs) 0) (b ∷ bs))
+comment_step b bs o true e h =
+    let ten : b ≡ 10 = grind (arith, nat_tests) in
+    let none : o + 0 ≡ o = omega arith in
+    subst (λ n. cut gap (suc o) bs ≡ cut gap (o + 0) (n ∷ bs)) (sym ten) (ap (λ m. cut gap (suc m) bs) (sym none))
+comment_step b bs o false e h =
+    let one : 1 + prefix_len in_line bs ≡ suc (prefix_len in_line bs) = omega arith in
+    let on : suc o + prefix_len in_line bs ≡ o + (1 + prefix_len in_line bs) = omega arith in
+    h ∙ ap₂ (cut gap) on (sym (ap (λ n. drop n (b ∷ bs)) one))
+
+pub comment_over : (bs : List ℕ) (o : ℕ) → cut comment o bs ≡ cut gap (o + prefix_len in_line bs) (drop (prefix_len in_line bs) bs)
+comment_over [] o = refl
+comment_over (b ∷ bs) o = comment_step b bs o (b == 10) refl (comment_over bs (suc o))
+
+-- what a byte is, by the tests of it
+abbrev kind_by : Bool → Bool → Bool → Option Word → Byte
+kind_by x y z o =
+    elim x [ true ↦ space | false ↦ elim y [ true ↦ hash | false ↦ elim z [ true ↦ part | false ↦ elim o [ none ↦ lone strange | some s ↦ lone s ] ] ] ]
+
+kind_part_by : (x y : Bool) (o : Option Word) → x ≡ false → y ≡ false → kind_by x y true o ≡ part
+kind_part_by x y o e f = ap₂ (λ a b. kind_by a b true o) e f
+
+kind_other : (x y : Bool) (o : Option Word) → part ≡ kind_by x y false o → ⊥
+kind_other true y o e = cc
+kind_other false true o e = cc
+kind_other false false none e = cc
+kind_other false false (some s) e = cc
+
+is_other : (b k : ℕ) → is_name_byte b ≡ true → is_name_byte k ≡ false → (b == k) ≡ false
+is_other b k e f = ne_eqb b k (λ h. true≢false (sym e ∙ (ap is_name_byte h ∙ f)))
+
+part_is : (b : ℕ) → is_name_byte b ≡ true → byte_kind b ≡ part
+part_is b e =
+    let k : blank b ≡ false = simp (is_other b 32 e refl, is_other b 9 e refl, is_other b 13 e refl, is_other b 10 e refl) in
+    ap (λ z. kind_by (blank b) (b == 35) z (beside signs (b ∷ []))) e ∙ kind_part_by (blank b) (b == 35) (beside signs (b ∷ [])) k (is_other b 35 e refl)
+
+part_is_not : (b : ℕ) → is_name_byte b ≡ false → part ≡ byte_kind b → ⊥
+part_is_not b e h =
+    kind_other (blank b) (b == 35) (beside signs (b ∷ [])) (h ∙ ap (λ z. kind_by (blank b) (b == 35) z (beside signs (b ∷ []))) e)
+
+-- a run goes as far as its bytes do
+run_step : (b : ℕ) (bs : List ℕ) (s : ℕ) (w : List ℕ) (o : ℕ) (t : Bool) → is_name_byte b ≡ t →
+    cut (run s (w ++ b ∷ [])) (suc o) bs
+    ≡ token s (run_word ((w ++ b ∷ []) ++ take (prefix_len is_name_byte bs) bs)) ∷ cut gap (suc o + prefix_len is_name_byte bs) (drop (prefix_len is_name_byte bs) bs) →
+    at_run (byte_kind b) s w o b bs
+    ≡ token s (run_word (w ++ take (cond t (1 + prefix_len is_name_byte bs) 0) (b ∷ bs))) ∷ cut gap (o + cond t (1 + prefix_len is_name_byte bs) 0) (drop (cond t (1 + prefix_len is_name_byte bs) 0) (b ∷ bs))
+run_step b bs s w o true e h =
+    let one : 1 + prefix_len is_name_byte bs ≡ suc (prefix_len is_name_byte bs) = omega arith in
+    let on : suc o + prefix_len is_name_byte bs ≡ o + (1 + prefix_len is_name_byte bs) = omega arith in
+    ap (λ k. at_run k s w o b bs) (part_is b e)
+    ∙ (h
+    ∙ ap₂ (λ v ts. token s (run_word v) ∷ ts)
+    (append_assoc w (b ∷ []) (take (prefix_len is_name_byte bs) bs) ∙ ap (λ n. w ++ take n (b ∷ bs)) (sym one))
+    (ap₂ (cut gap) on (sym (ap (λ n. drop n (b ∷ bs)) one))))
+run_step b bs s w o false e h =
+    let none : o + 0 ≡ o = omega arith in
+    run_over (byte_kind b) s w o b bs (part_is_not b e) ∙ ap₂ (λ v m. token s (run_word v) ∷ at_gap (byte_kind b) m b bs) (sym (append-nil w)) (sym none)
+
+pub run_over_all : (bs : List ℕ) (s : ℕ) (w : List ℕ) (o : ℕ) →
+    cut (run s w) o bs ≡ token s (run_word (w ++ take (prefix_len is_name_byte bs) bs)) ∷ cut gap (o + prefix_len is_name_byte bs) (drop (prefix_len is_name_byte bs) bs)
+run_over_all [] s w o = ap (λ v. token s (run_word v) ∷ []) (sym (append-nil w))
+run_over_all (b ∷ bs) s w o = run_step b bs s w o (is_name_byte b) refl (run_over_all bs s (w ++ b ∷ []) (suc o))
+
+-- a run that begins with a part
+gap_run : (bs : List ℕ) (o d : ℕ) → 0 < length bs → byte_kind (get_or bs 0 d) ≡ part → cut gap o bs ≡ cut (run o []) o bs
+gap_run [] o d l e = absurd (omega arith)
+gap_run (b ∷ bs) o d l e = ap (λ k. at_gap k o b bs) e ∙ sym (ap (λ k. at_run k o [] o b bs) e)
+
+pub comment_to : (xs : List ℕ) (i n : ℕ) → n ≡ prefix_len in_line (drop i xs) → cut comment i (drop i xs) ≡ cut gap (i + n) (drop (i + n) xs)
+comment_to xs i n e =
+    comment_over (drop i xs) i ∙ (ap (λ k. cut gap (i + k) (drop k (drop i xs))) (sym e) ∙ ap (cut gap (i + n)) (drop-drop n i xs))
+
+pub run_to : (xs : List ℕ) (i n : ℕ) → i < length xs → byte_kind (get_or xs i 0) ≡ part → n ≡ prefix_len is_name_byte (drop i xs) →
+    cut gap i (drop i xs) ≡ token i (run_word (between i (i + n) xs)) ∷ cut gap (i + n) (drop (i + n) xs)
+run_to xs i n h k e =
+    let zero : i + 0 ≡ i = omega arith in
+    let less : i + n - i ≡ n = omega arith in
+    gap_run (drop i xs) i 0 (omega (arith, length-drop i xs)) (ap byte_kind (get_or-drop i xs 0 0 ∙ ap (λ n. get_or xs n 0) zero) ∙ k)
+    ∙ (run_over_all (drop i xs) i [] i
+    ∙ (ap (λ m. token i (run_word (take m (drop i xs))) ∷ cut gap (i + m) (drop m (drop i xs))) (sym e)
+    ∙ ap₂ (λ m bs. token i (run_word (take m (drop i xs))) ∷ cut gap (i + n) bs) (sym less) (drop-drop n i xs)))
+
+-- the word beside a run in a list, where it is found by its letters
+abbrev pub said_of : options.Option (Bor (List ℕ) × told.Word) → Option Word
+said_of None = none
+said_of (Some e) = some (said e.1)
+
+beside_step : (t : Bool) (x : Bor (List ℕ) × told.Word) (n : Option Word) (o : options.Option (Bor (List ℕ) × told.Word)) → n ≡ said_of o →
+    elim t [ true ↦ some (said x.1) | false ↦ n ] ≡ said_of (cond t (Some x) o)
+beside_step true x n o e = refl
+beside_step false x n o e = e
+
+pub beside_found : (w : List ℕ) (xs : List (Bor (List ℕ) × told.Word)) → beside (map (λ e. (e.0.now, said e.1)) xs) w ≡ said_of (find (λ e. same_word e.0.now w) xs)
+beside_found w [] = refl
+beside_found w (x ∷ xs) = beside_step (same_word x.0.now w) x _ _ (beside_found w xs)
+
+pub reserved_is : (n : Option Word) (o : options.Option (Bor (Bor (List ℕ) × told.Word))) (r : options.Option told.Word) → n ≡ said_of (option_map (λ y. y.now) o) →
+    MatchOption o (r ≡ None) (λ y. r ≡ Some y.now.1) → MatchOption r (n ≡ none) (λ w. n ≡ some (said w))
+reserved_is n None r e h = subst (λ r. MatchOption r (n ≡ none) (λ w. n ≡ some (said w))) (sym h) e
+reserved_is n (Some y) r e h = subst (λ r. MatchOption r (n ≡ none) (λ w. n ≡ some (said w))) (sym h) e
+
+-- at the end of the text
 pub gap_all : (xs : List ℕ) (i : ℕ) → length xs ≤ i → cut gap i (drop i xs) ≡ []
 gap_all xs i h = ap (cut gap i) (drop_all i xs h)
 
-pub run_all : (xs : List ℕ) (s i n : ℕ) → i ≡ n → length xs ≤ n →
-    cut (run s (between s i xs)) i (drop i xs) ≡ token s (run_word (between s n xs)) ∷ cut gap n (drop n xs)
-run_all xs s i n e h =
-    ap (λ k. cut (run s (between s k xs)) k (drop k xs)) e
-    ∙ (ap (cut (run s (between s n xs)) n) (drop_all n xs h) ∙ sym (ap (λ bs. token s (run_word (between s n xs)) ∷ cut gap n bs) (drop_all n xs h)))
-
 module _ (xs : List ℕ) (i : ℕ) (h : i < length xs) where
-  pub comment_ends : get_or xs i 0 ≡ 10 → cut comment i (drop i xs) ≡ cut gap (i + 1) (drop (i + 1) xs)
-  comment_ends e =
-      ap (cut comment i) (drop_more xs i 0 h)
-      ∙ (ap (λ t. at_comment t i (drop (i + 1) xs)) (eq-eqb (get_or xs i 0) 10 e) ∙ ap (λ n. cut gap n (drop (i + 1) xs)) (sym (add-one i)))
-
-  pub comment_more : (get_or xs i 0 ≡ 10 → ⊥) → cut comment i (drop i xs) ≡ cut comment (i + 1) (drop (i + 1) xs)
-  comment_more n =
-      ap (cut comment i) (drop_more xs i 0 h)
-      ∙ (ap (λ t. at_comment t i (drop (i + 1) xs)) (ne_eqb (get_or xs i 0) 10 n) ∙ ap (λ n. cut comment n (drop (i + 1) xs)) (sym (add-one i)))
-
   gap_step : (k : Byte) → k ≡ byte_kind (get_or xs i 0) → cut gap i (drop i xs) ≡ at_gap k i (get_or xs i 0) (drop (i + 1) xs)
   gap_step k e = ap (cut gap i) (drop_more xs i 0 h) ∙ ap (λ t. at_gap t i (get_or xs i 0) (drop (i + 1) xs)) (sym e)
 
@@ -81,23 +165,3 @@ module _ (xs : List ℕ) (i : ℕ) (h : i < length xs) where
 
   pub gap_lone : (w : Word) → lone w ≡ byte_kind (get_or xs i 0) → cut gap i (drop i xs) ≡ token i w ∷ cut gap (i + 1) (drop (i + 1) xs)
   gap_lone w e = gap_step (lone w) e ∙ ap (λ n. token i w ∷ cut gap n (drop (i + 1) xs)) (sym (add-one i))
-
-  pub gap_part : part ≡ byte_kind (get_or xs i 0) → cut gap i (drop i xs) ≡ cut (run i (between i (i + 1) xs)) (i + 1) (drop (i + 1) xs)
-  gap_part e =
-      let one : between i (i + 1) xs ≡ get_or xs i 0 ∷ [] =
-      between_more xs i i 0 (omega arith) h ∙ ap (λ n. take n (drop i xs) ++ get_or xs i 0 ∷ []) (sub_self i) in
-      gap_step part e ∙ ap₂ (λ w n. cut (run i w) n (drop (i + 1) xs)) (sym one) (sym (add-one i))
-
-  run_step : (s : ℕ) (w : List ℕ) (k : Byte) → k ≡ byte_kind (get_or xs i 0) → cut (run s w) i (drop i xs) ≡ at_run k s w i (get_or xs i 0) (drop (i + 1) xs)
-  run_step s w k e = ap (cut (run s w) i) (drop_more xs i 0 h) ∙ ap (λ t. at_run t s w i (get_or xs i 0) (drop (i + 1) xs)) (sym e)
-
-  pub run_more : (s : ℕ) → s ≤ i → part ≡ byte_kind (get_or xs i 0) →
-      cut (run s (between s i xs)) i (drop i xs) ≡ cut (run s (between s (i + 1) xs)) (i + 1) (drop (i + 1) xs)
-  run_more s l e =
-      run_step s (between s i xs) part e
-      ∙ ap₂ (λ w n. cut (run s w) n (drop (i + 1) xs)) (sym (between_more xs s i 0 l h)) (sym (add-one i))
-
-  pub run_ends : (s : ℕ) (w : List ℕ) → (part ≡ byte_kind (get_or xs i 0) → ⊥) → cut (run s w) i (drop i xs) ≡ token s (run_word w) ∷ cut gap i (drop i xs)
-  run_ends s w n =
-      run_step s w (byte_kind (get_or xs i 0)) refl
-      ∙ (run_over (byte_kind (get_or xs i 0)) s w i (get_or xs i 0) (drop (i + 1) xs) n ∙ ap (λ l. token s (run_word w) ∷ l) (sym (gap_step (byte_kind (get_or xs i 0)) refl)))

@@ -1,6 +1,6 @@
 -- Reading a whole text.
-use Rattle.std.proofs.Common.{◌≡◌, ℕ, ◌≤◌, true, List, [], ◌∷◌, length, Some, None, Option, sym, refl, ap, ◌∙◌, subst, ap₂}
-use Rattle.std.specs.Option as options
+use Rattle.std.proofs.Common.{◌≡◌, ℕ, ◌≤◌, true, List, [], length, Some, None, Option, sym, refl, ap, ◌∙◌, subst, ap₂}
+use Rattle.std.specs.Iterator.{YieldsFirstBy}
 use Rattle.golog.specs.Programs.{Prog, names_below, acts_below}
 use Rattle.golog.specs.Points.{words}
 use Rattle.golog.specs.Words.{tokens}
@@ -15,17 +15,17 @@ use Rattle.text.specs.declared.word.Token.{Token}
 use Rattle.text.specs.declared.lexer.Words.{Words}
 use Rattle.text.specs.declared.fault.TextFault.{TextFault}
 use Rattle.text.specs.declared.reader.Reader.{Reader}
-use Rattle.text.specs.Left.{left}
 use Rattle.text.specs.Faults.{Tells}
-use Rattle.text.specs.Rest.{said_token, rest_from, rest, going}
+use Rattle.text.specs.Left.{said_token, left}
+use Rattle.text.specs.Rest.{rest_from, rest, going}
 use Rattle.text.specs.Steps.{Unplaced}
 use Rattle.text.specs.Progs.{ProgRead, ProgRefused}
 use Rattle.text.proofs.Stepping.{refusal}
 use Rattle.text.proofs.Programs.{whole_unfit}
 
 -- the words of the text are those that are not taken at first
-pub first_rest : (o : Option Token) (ws vs : Words) → options.MatchOption o (left ws ≡ []) (λ t. left ws ≡ said_token t ∷ left vs) → rest_from o vs ≡ left ws
-first_rest None ws vs h = sym h
+pub first_rest : (o : Option Token) (ws vs : Words) → YieldsFirstBy said_token left ws o vs → rest_from o vs ≡ left ws
+first_rest None ws vs h = sym h.0
 first_rest (Some t) ws vs h = sym h
 
 pub reading_begins : (N : Names) (text : List ℕ) (r : Reader) → rest r ≡ tokens text → r.taken ≡ 0 → r.acts ≡ 0 → read N text ≡ going N (length text) r (want [] nothing)

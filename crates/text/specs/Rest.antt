@@ -16,11 +16,7 @@ use Rattle.text.specs.declared.word.Mark.TheVariants.{Close, CloseSquare, Semico
 use Rattle.text.specs.declared.lexer.Words.{Words}
 use Rattle.text.specs.declared.reader.Known.{Known}
 use Rattle.text.specs.declared.reader.Reader.{Reader}
-use Rattle.text.specs.Said.{said}
-use Rattle.text.specs.Left.{left}
-
-abbrev pub said_token : Token → golog.Token
-said_token t = golog.token t.at (said t.word)
+use Rattle.text.specs.Left.{said_token, left}
 
 -- the words that are not taken
 abbrev pub rest_from : Option Token → Words → List golog.Token

@@ -13,7 +13,8 @@ use Rattle.text.specs.declared.fault.TextFault.{TextFault}
 use Rattle.text.specs.declared.reader.Reader.{Reader}
 use Rattle.text.specs.Said.{mark_word}
 use Rattle.text.specs.Faults.{Tells}
-use Rattle.text.specs.Rest.{said_token, rest, going, next_mark}
+use Rattle.text.specs.Left.{said_token}
+use Rattle.text.specs.Rest.{rest, going, next_mark}
 
 pub record Passed (s t : Reader) (x : Token) : Type 0 where
   pub rests : rest s ≡ said_token x ∷ rest t

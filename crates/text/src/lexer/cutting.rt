@@ -1,11 +1,13 @@
 ghost use Rattle.std.specs.Prelude.{◌≡◌, ℕ, ◌+◌, ◌-◌, ◌<◌, ◌≤◌, true, false, [], ◌∷◌, length, drop, MatchOption, slice_index};
+ghost use Rattle.std.proofs.Math.Option.{none, some};
+ghost use Rattle.std.specs.Iterator.{YieldsFirstBy, item_count};
 ghost use Rattle.std.specs.List.{between};
 ghost use Rattle.words.specs.Names.{is_name_byte};
-ghost use Rattle.golog.specs.Words.{byte_kind, cut, token, tokens, run_word, name_shaped};
+ghost use Rattle.golog.specs.Words.{byte_kind, cut, token, tokens, beside, reserved, run_word, name_shaped};
 ghost use Rattle.golog.specs.Words.Cutting.{gap, comment};
 ghost use Rattle.golog.specs.Words.Byte.{part};
 ghost use Rattle.text.specs.Said.{said, said_kind, word_byte};
-ghost use Rattle.text.specs.Left.{left};
+ghost use Rattle.text.specs.Left.{said_token, left};
 
 use super::Words;
 use crate::word::{Mark, Token, Word};
@@ -13,6 +15,23 @@ use words::{is_letter, is_name_byte, same_word};
 
 // The longest name.
 const MOST_LETTERS: usize = 24;
+
+// The words that no name may be.
+const RESERVED: [(&[u8], Word<'static>); 13] = [
+    (b"if", Word::If),
+    (b"then", Word::Behind(Mark::Then)),
+    (b"else", Word::Behind(Mark::Else)),
+    (b"fi", Word::Behind(Mark::Fi)),
+    (b"while", Word::While),
+    (b"do", Word::Behind(Mark::Do)),
+    (b"od", Word::Behind(Mark::Od)),
+    (b"nil", Word::Nil),
+    (b"and", Word::Behind(Mark::And)),
+    (b"or", Word::Behind(Mark::Or)),
+    (b"not", Word::Not),
+    (b"true", Word::True),
+    (b"false", Word::False),
+];
 
 // What a byte is: blank, the beginning of a comment, part of a run, or a word of its own.
 #[derive(Clone, Copy)]
@@ -23,41 +42,34 @@ enum Kind {
     Lone(Word<'static>),
 }
 
-fn kind_of(b: u8) -> Kind
-    ensures { said_kind result ≡ byte_kind b }
-{
-    match b as char {
-        ' ' | '\t' | '\r' | '\n' => Kind::Blank,
-        '#' => Kind::Hash,
-        '(' => Kind::Lone(Word::Open),
-        ')' => Kind::Lone(Word::Behind(Mark::Close)),
-        '[' => Kind::Lone(Word::OpenSquare),
-        ']' => Kind::Lone(Word::Behind(Mark::CloseSquare)),
-        ';' => Kind::Lone(Word::Behind(Mark::Semicolon)),
-        '|' => Kind::Lone(Word::Behind(Mark::Bar)),
-        '*' => Kind::Lone(Word::Behind(Mark::Star)),
-        _ => {
-            if is_name_byte(b) {
-                Kind::Part
-            } else {
-                Kind::Lone(Word::Strange)
-            }
+impl From<u8> for Kind {
+    ghost from_gives = { λ b k. said_kind k ≡ byte_kind b };
+
+    fn from(b: u8) -> Kind {
+        match b {
+            b' ' | b'\t' | b'\r' | b'\n' => Kind::Blank,
+            b'#' => Kind::Hash,
+            b'(' => Kind::Lone(Word::Open),
+            b')' => Kind::Lone(Word::Behind(Mark::Close)),
+            b'[' => Kind::Lone(Word::OpenSquare),
+            b']' => Kind::Lone(Word::Behind(Mark::CloseSquare)),
+            b';' => Kind::Lone(Word::Behind(Mark::Semicolon)),
+            b'|' => Kind::Lone(Word::Behind(Mark::Bar)),
+            b'*' => Kind::Lone(Word::Behind(Mark::Star)),
+            _ if is_name_byte(b) => Kind::Part,
+            _ => Kind::Lone(Word::Strange),
         }
     }
 }
 
-// Where a comment ends: behind LF, or with the text.
+// Where a comment ends: at LF, or with the text.
 fn comment_end(text: &[u8], from: usize) -> usize
     requires { from ≤ length text.now }
     ensures within { (from ≤ result) × (result ≤ length text.now) }
     ensures skips { cut comment from (drop from text.now) ≡ cut gap result (drop result text.now) }
 {
-    for i in from..text.len() {
-        if text[i] == b'\n' {
-            return i + 1;
-        }
-    }
-    text.len()
+    let comment = text[from..].iter().take_while(|&&b| b != b'\n');
+    from + comment.count()
 }
 
 // Where the next word begins, or the text's end.
@@ -67,15 +79,16 @@ fn word_start(text: &[u8], from: usize) -> usize
     ensures skips { cut gap from (drop from text.now) ≡ cut gap result (drop result text.now) }
     ensures word { result < length text.now → word_byte (byte_kind (slice_index text.now result)) ≡ true }
 {
-    let mut i = from;
-    while i < text.len() {
-        match kind_of(text[i]) {
-            Kind::Blank => i += 1,
-            Kind::Hash => i = comment_end(text, i + 1),
-            Kind::Part | Kind::Lone(_) => return i,
+    // Not an iterator chain: a comment is passed over in one stride, so the bytes are not looked at one by one.
+    let mut at = from;
+    while let Some(&b) = text.get(at) {
+        match Kind::from(b) {
+            Kind::Blank => at += 1,
+            Kind::Hash => at = comment_end(text, at + 1),
+            Kind::Part | Kind::Lone(_) => break,
         }
     }
-    i
+    at
 }
 
 // Where the run that begins at the offset ends.
@@ -85,50 +98,29 @@ fn run_end(text: &[u8], start: usize) -> usize
     ensures within { (start < result) × (result ≤ length text.now) }
     ensures run { cut gap start (drop start text.now) ≡ token start (run_word (between start result text.now)) ∷ cut gap result (drop result text.now) }
 {
-    for i in start + 1..text.len() {
-        match kind_of(text[i]) {
-            Kind::Part => {}
-            _ => return i,
-        }
-    }
-    text.len()
+    let run = text[start..].iter().take_while(|&&b| is_name_byte(b));
+    start + run.count()
 }
 
 // The word that a run is.
 fn run_word(run: &[u8]) -> Word<'_>
     ensures { said result ≡ run_word run.now }
 {
-    if same_word(b"if", run) {
-        Word::If
-    } else if same_word(b"then", run) {
-        Word::Behind(Mark::Then)
-    } else if same_word(b"else", run) {
-        Word::Behind(Mark::Else)
-    } else if same_word(b"fi", run) {
-        Word::Behind(Mark::Fi)
-    } else if same_word(b"while", run) {
-        Word::While
-    } else if same_word(b"do", run) {
-        Word::Behind(Mark::Do)
-    } else if same_word(b"od", run) {
-        Word::Behind(Mark::Od)
-    } else if same_word(b"nil", run) {
-        Word::Nil
-    } else if same_word(b"and", run) {
-        Word::Behind(Mark::And)
-    } else if same_word(b"or", run) {
-        Word::Behind(Mark::Or)
-    } else if same_word(b"not", run) {
-        Word::Not
-    } else if same_word(b"true", run) {
-        Word::True
-    } else if same_word(b"false", run) {
-        Word::False
-    } else if name_shaped(run) {
-        Word::Name(run)
-    } else {
-        Word::Strange
+    match reserved(run) {
+        Some(word) => word,
+        None if name_shaped(run) => Word::Name(run),
+        None => Word::Strange,
     }
+}
+
+// The word that a run is if it is reserved.
+fn reserved(run: &[u8]) -> Option<Word<'static>>
+    ensures { MatchOption result (beside reserved run.now ≡ none) (λ w. beside reserved run.now ≡ some (said w)) }
+{
+    RESERVED
+        .iter()
+        .find(|(letters, _)| same_word(letters, run))
+        .map(|(_, word)| *word)
 }
 
 // Whether a run begins as a name and is not too long.
@@ -137,27 +129,34 @@ fn name_shaped(run: &[u8]) -> bool
 {
     match run {
         [first, ..] => is_letter(*first) && run.len() <= MOST_LETTERS,
-        _ => false,
+        [] => false,
     }
 }
 
 impl<'a> Words<'a> {
+    // All words of a text.
     pub fn new(text: &'a [u8]) -> Words<'a>
         ensures { left result ≡ tokens text.now }
     {
         Words { text, at: 0 }
     }
+}
+
+impl<'a> Iterator for Words<'a> {
+    type Item = Token<'a>;
+
+    ghost next_gives = { YieldsFirstBy said_token left };
+
+    ghost remaining = { item_count left };
 
     // The next word, if there is one.
-    pub fn next(&mut self) -> Option<Token<'a>>
-        ensures { MatchOption result (left self.old ≡ []) (λ t. left self.old ≡ token t.at (said t.word) ∷ left self.new) }
-    {
+    fn next(&mut self) -> Option<Token<'a>> {
         let text = self.text;
         let at = word_start(text, self.at);
         if at == text.len() {
             return None;
         }
-        match kind_of(text[at]) {
+        match Kind::from(text[at]) {
             Kind::Lone(word) => {
                 self.at = at + 1;
                 Some(Token { word, at })

@@ -18,13 +18,8 @@ use words::names::Names;
 pub(super) fn number(names: &Names, word: &[u8], at: usize) -> Result<u8, TextFault>
     ensures { MatchResult result (λ i. number_of (name_list names.now) word.now ≡ some i) (λ f. Nameless (number_of (name_list names.now) word.now) at f) }
 {
-    let Some(number) = names.find(word) else {
-        return Err(TextFault::Unknown(at));
-    };
-    if number > 255 {
-        return Err(TextFault::Memory);
-    }
-    Ok(number as u8)
+    let number = names.find(word).ok_or(TextFault::Unknown(at))?;
+    u8::try_from(number).map_err(|_| TextFault::Memory)
 }
 
 impl Reader<'_> {
@@ -32,16 +27,14 @@ impl Reader<'_> {
     pub(super) fn clause(&mut self, clause: Clause) -> Result<u16, TextFault>
         ensures { MatchResult result (λ i. BuiltCond self.old self.new (cond_node (cond_at self.old.tree) clause) i) (λ f. f ≡ Memory) }
     {
-        let i = self.tree.add_clause(clause)?;
-        Ok(i)
+        Ok(self.tree.add_clause(clause)?)
     }
 
     // One program more.
     pub(super) fn node(&mut self, node: Node) -> Result<u16, TextFault>
         ensures { MatchResult result (λ i. Built self.old self.new (prog_node (prog_at self.old.tree) (cond_at self.old.tree) node) i) (λ f. f ≡ Memory) }
     {
-        let i = self.tree.add_node(node)?;
-        Ok(i)
+        Ok(self.tree.add_node(node)?)
     }
 
     // A program behind a test.
@@ -50,8 +43,7 @@ impl Reader<'_> {
         ensures { MatchResult result (λ i. Built self.old self.new (seq (test (cond_at self.old.tree c)) (prog_at self.old.tree p)) i) (λ f. f ≡ Memory) }
     {
         let t = self.node(Node::Test(c))?;
-        let i = self.node(Node::Seq(t, p))?;
-        Ok(i)
+        self.node(Node::Seq(t, p))
     }
 
     // One program where a condition holds, and another where it fails.
@@ -64,8 +56,7 @@ impl Reader<'_> {
         let first = self.guarded(c, p)?;
         let n = self.clause(Clause::Not(c))?;
         let second = self.guarded(n, q)?;
-        let i = self.node(Node::Alt(first, second))?;
-        Ok(i)
+        self.node(Node::Alt(first, second))
     }
 
     // A program again and again while a condition holds.
@@ -78,7 +69,6 @@ impl Reader<'_> {
         let turns = self.node(Node::Star(body))?;
         let n = self.clause(Clause::Not(c))?;
         let end = self.node(Node::Test(n))?;
-        let i = self.node(Node::Seq(turns, end))?;
-        Ok(i)
+        self.node(Node::Seq(turns, end))
     }
 }

@@ -89,7 +89,7 @@ impl<'a> Reader<'a> {
             return TextFault::Misplaced(end);
         };
         match token.word {
-            Word::Strange => TextFault::Word(WordFault::Strange(token.at)),
+            Word::Strange => WordFault::Strange(token.at).into(),
             _ => TextFault::Misplaced(token.at),
         }
     }

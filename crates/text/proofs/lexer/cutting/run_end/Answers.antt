@@ -1,22 +1,15 @@
-use Rattle.std.proofs.Common.{◌≡◌, get_or, sym, ◌∙◌, rules}
-use Rattle.golog.specs.Words.{byte_kind}
-use Rattle.golog.specs.Words.Byte.{part}
-use Rattle.text.proofs.Cutting.{kind_part, gap_part, run_more, run_ends, run_all}
+use Rattle.std.proofs.Common.{drop, ◌∙◌, arith, length-drop, rules, tests}
+use Rattle.std.proofs.lemmas.List.{take_all}
+use Rattle.std.proofs.lemmas.Iterator.{YieldsList-from_slice}
+use Rattle.std.proofs.lemmas.Iterator.Consumers.{count_from_yields_List, YieldsList-at}
+use Rattle.std.proofs.lemmas.Iterator.Search.{YieldsList-from_take_while}
+use Rattle.std.proofs.lemmas.List.Folds.{length-prefix_len}
+use Rattle.words.specs.Names.{is_name_byte}
+use Rattle.text.proofs.Cutting.{run_to}
 use Rattle.text.proofs.lexer.cutting.run_end.Goals as goal
 
-pub loop-i-init : goal.loop-i-init
-loop-i-init c = gap_part c.args.text.now c.args.start c.requires.start_in_bounds (sym c.requires.start_value)
-
-pub returns-in_default : goal.returns-in_default
-returns-in_default c =
-    let other : part ≡ byte_kind (get_or c.args.text.now c.loop-i.i 0) → ⊥ = λ e. c.in_default.not-Part (kind_part c.kind_of.result (e ∙ sym c.kind_of.ensures)) in
-    record {
-      within = search rules;
-      run = c.loop-i.invariant ∙ run_ends c.args.text.now c.loop-i.i (search rules) c.args.start _ other;
-    }
-
-pub loop-i-preserved : goal.loop-i-preserved
-loop-i-preserved c = c.loop-i.invariant ∙ run_more c.args.text.now c.loop-i.i (search rules) c.args.start (search rules) c.in-Part.ensures
-
-pub returns : goal.returns
-returns c = record { within = search rules; run = c.loop-i.invariant ∙ run_all c.args.text.now c.args.start c.loop-i.i _ (search rules) (search rules) }
+pub returns-clause-run : goal.returns-clause-run
+returns-clause-run c =
+    let bs = drop c.args.start c.args.text.now in
+    run_to c.args.text.now c.args.start _ c.requires.start_in_bounds c.requires.start_value
+    (count_from_yields_List c.take_while-run.result _ c.count.ensures.ran (YieldsList-from_take_while _ is_name_byte (YieldsList-at c.take_while-run.ensures.source (YieldsList-from_slice bs (c.iter.ensures.rest ∙ take_all _ bs (omega (arith, length-drop c.args.start c.args.text.now))))) c.take_while-run.ensures.closure c.take_while-run.ensures.done (λ x b q k. search (rules, tests))) ∙ length-prefix_len is_name_byte bs)

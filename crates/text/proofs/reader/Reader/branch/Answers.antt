@@ -1,3 +1,4 @@
+use Rattle.std.proofs.lemmas.Result.{MatchResult-weaker}
 use Rattle.text.proofs.Growing.{grows_trans, prog_there, branch_built}
 use Rattle.text.proofs.reader.Reader.branch.Goals as goal
 
@@ -8,5 +9,7 @@ guarded-requires-2 c =
 
 pub returns : goal.returns
 returns c =
+    MatchResult-weaker c.node.result c.node.ensures
+    (λ i h.
     branch_built c.args.self.now c.guarded.new.self c.clause.new.self c.guarded-2.new.self c.node.new.self c.args.c c.args.p c.args.q
-    _ _ _ _ c.in_ok-first.ensures c.in_ok-n.ensures c.in_ok-second.ensures c.in_ok-i.ensures c.requires.c_in_bounds c.requires.q_in_bounds
+    _ _ _ i c.in_ok-first.ensures c.in_ok-n.ensures c.in_ok-second.ensures h c.requires.c_in_bounds c.requires.q_in_bounds) (λ f e. e)

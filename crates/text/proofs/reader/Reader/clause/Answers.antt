@@ -7,7 +7,7 @@ returns c =
     let t = c.args.self.now.tree in
     let u = c.add_clause.new.self in
     let x = c.args.clause in
-    let a = c.in_ok-i.ensures in
+    let a = c.in_ok-add_clause.ensures in
     record {
       unmoved = record { rests = refl; counts = refl; acts = refl };
       grows = grows_clause t u x a.clauses.2 a.nodes;

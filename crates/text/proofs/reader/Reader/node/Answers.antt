@@ -7,7 +7,7 @@ returns c =
     let t = c.args.self.now.tree in
     let u = c.add_node.new.self in
     let x = c.args.node in
-    let a = c.in_ok-i.ensures in
+    let a = c.in_ok-add_node.ensures in
     record {
       unmoved = record { rests = refl; counts = refl; acts = refl };
       grows = grows_node t u x a.clauses a.nodes.2;

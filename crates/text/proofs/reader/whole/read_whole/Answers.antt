@@ -9,14 +9,14 @@ returns-in_err-root c =
     let p = err_from_is_err_and c.from_residual.result c.from_residual.ensures.1 in
     let N = both_names c.args.facts.now c.args.acts.now in
     rw (p.1, p.2) (whole_refused N c.args.text.now _
-    (reading_begins N c.args.text.now _ (first_rest c.next-ahead.result c.new-words.result c.next-ahead.new.self c.next-ahead.ensures ∙ c.new-words.ensures) refl refl)
+    (reading_begins N c.args.text.now _ (first_rest c.next-ahead.result c.new-words.result c.next-ahead.new.self c.next-ahead.ensures.steps ∙ c.new-words.ensures) refl refl)
     c.in_err-root.field-0.0 c.in_err-root.ensures)
 
 pub returns-in-Some : goal.returns-in-Some
 returns-in-Some c =
     let N = both_names c.args.facts.now c.args.acts.now in
     whole_unplaced N c.args.text.now _
-    (reading_begins N c.args.text.now _ (first_rest c.next-ahead.result c.new-words.result c.next-ahead.new.self c.next-ahead.ensures ∙ c.new-words.ensures) refl refl)
+    (reading_begins N c.args.text.now _ (first_rest c.next-ahead.result c.new-words.result c.next-ahead.new.self c.next-ahead.ensures.steps ∙ c.new-words.ensures) refl refl)
     c.choice.new.self _ c.in_ok-root.ensures c.in-Some._token c.in-Some.is c.misplaced.result c.misplaced.ensures
 
 pub returns : goal.returns
@@ -24,6 +24,6 @@ returns c =
     let N = both_names c.args.facts.now c.args.acts.now in (
       c.in_ok-root.ensures.there,
       whole_read N c.args.text.now _
-          (reading_begins N c.args.text.now _ (first_rest c.next-ahead.result c.new-words.result c.next-ahead.new.self c.next-ahead.ensures ∙ c.new-words.ensures) refl refl)
+          (reading_begins N c.args.text.now _ (first_rest c.next-ahead.result c.new-words.result c.next-ahead.new.self c.next-ahead.ensures.steps ∙ c.new-words.ensures) refl refl)
           c.choice.new.self _ c.in_ok-root.ensures c.in_default.is,
     )
