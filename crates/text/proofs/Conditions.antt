@@ -20,14 +20,14 @@ use Rattle.text.specs.declared.word.Word.TheVariants.{Open, Not, True, False}
 use Rattle.text.specs.declared.word.Mark.{Mark}
 use Rattle.text.specs.declared.word.Mark.TheVariants as mark
 use Rattle.text.specs.declared.fault.TextFault.{TextFault}
+use Rattle.text.specs.declared.reader.Level.{Level}
 use Rattle.text.specs.declared.reader.Reader.{Reader}
 use Rattle.text.specs.Said.{said, mark_word}
-use Rattle.text.specs.Rest.{rest, going, mark_of, next_mark}
+use Rattle.text.specs.Rest.{rest, names_of, goes_on, Deeper, mark_of, next_mark}
 use Rattle.text.specs.Steps.{Taken, OverDone, OverDeep, Unfit, Unclosed}
 use Rattle.text.specs.Built.{Grows, BuiltCond}
-use Rattle.text.specs.Conds.{no_negation, CondStops, CondRead, CondJoined, CondRefused, CondTaken}
-use Rattle.text.specs.Progs.{base_closer}
-use Rattle.text.proofs.Stepping.{alike, refusal}
+use Rattle.text.specs.Conds.{no_negation, CondStops, CondRead, CondJoined, CondRefused, cond_closer, CondClosed, CondUnclosed, CondTaken}
+use Rattle.text.proofs.Stepping.{alike, refusal, deeper_on}
 use Rattle.text.proofs.Growing.{grows_same, grows_trans, cond_stays, unmoved_going}
 
 operand_open : (K : List Frame) (A : Sofar) (B : Base) (L : List Nest) (O : CondSofar) (c : Cond) → no_negation L ≡ true → operand K A B L O c ≡ have_cond K A B L O c
@@ -54,30 +54,30 @@ constant_taken s m t w x i p b = record {
 abbrev Is : Names → golog.Word → Cond → Type 0
 Is N w c = (K : List Frame) (A : Sofar) (B : Base) (L : List Nest) (O : CondSofar) → advance N (want_cond K A B L O) w ≡ goes (operand K A B L O c)
 
-pub constant_read : (N : Names) (len d : ℕ) (s t : Reader) (w : golog.Word) (c : Cond) (i : ℕ) → d ≤ most_depth → Is N w c → CondTaken s t w c i → CondRead literal N len d s t i
-constant_read N len d s t w c i h is p = record {
+pub constant_read : (V : Level) (s t : Reader) (w : golog.Word) (c : Cond) (i : ℕ) → Is (names_of V) w c → CondTaken s t w c i → CondRead literal V s t i
+constant_read V s t w c i is p = record {
   fewer = p.fewer;
   stops = tt;
   grows = p.grows;
   there = p.there;
   on = λ K A B L O o e.
       let deep : depth (operand K A B L O c) ≤ most_depth = let l = operand_depth K A B L O c in omega (arith, l) in
-      p.on N len (want_cond K A B L O) (operand K A B L O c) (is K A B L O) deep ∙ ap (λ x. going N len t (operand K A B L O x)) (sym p.is);
+      p.on (names_of V) V.end (want_cond K A B L O) (operand K A B L O c) (is K A B L O) deep ∙ ap (λ x. goes_on V t (operand K A B L O x)) (sym p.is);
 }
 
-pub constant_refused : (N : Names) (len d : ℕ) (s : Reader) (w : golog.Word) (c : Cond) (f : TextFault) → Is N w c → OverDone s w f → CondRefused literal N len d s f
-constant_refused N len d s w c f is h K A B L O o e = h N len (want_cond K A B L O) (operand K A B L O c) (is K A B L O)
+pub constant_refused : (V : Level) (s : Reader) (w : golog.Word) (c : Cond) (f : TextFault) → Is (names_of V) w c → OverDone s w f → CondRefused literal V s f
+constant_refused V s w c f is h K A B L O o e = h (names_of V) V.end (want_cond K A B L O) (operand K A B L O c) (is K A B L O)
 
 -- the loops: the part at hand, and what was joined to it
-module _ (N : Names) (len d : ℕ) (h : d ≤ most_depth) where
-  level : (K : List Frame) (A : Sofar) (B : Base) (L : List Nest) (O : CondSofar) → suc (length K + length L) ≡ d → depth (want_cond K A B L O) ≤ most_depth
+module _ (V : Level) where
+  level : (K : List Frame) (A : Sofar) (B : Base) (L : List Nest) (O : CondSofar) → suc (length K + length L) ≡ V.depth → depth (want_cond K A B L O) ≤ most_depth
   level K A B L O e = omega arith
 
   both_alike : (s : Reader) (K : List Frame) (A : Sofar) (B : Base) (L : List Nest) (D : Option Cond) (x y : Cond) →
-      going N len s (have_cond K A B L (D, some x) y) ≡ going N len s (have_cond K A B L (D, none) (both x y))
-  both_alike s K A B L D x y = alike s N len _ _ refl (λ w m. by w)
+      goes_on V s (have_cond K A B L (D, some x) y) ≡ goes_on V s (have_cond K A B L (D, none) (both x y))
+  both_alike s K A B L D x y = alike s (names_of V) V.end _ _ refl (λ w m. by w)
     where
-      by : (w : golog.Word) → advance N (have_cond K A B L (D, some x) y) w ≡ advance N (have_cond K A B L (D, none) (both x y)) w
+      by : (w : golog.Word) → advance (names_of V) (have_cond K A B L (D, some x) y) w ≡ advance (names_of V) (have_cond K A B L (D, none) (both x y)) w
       by (name w) = refl
       by open_round = refl
       by close_round = refl
@@ -92,10 +92,10 @@ module _ (N : Names) (len d : ℕ) (h : d ≤ most_depth) where
       by strange = refl
 
   any_alike : (s : Reader) (K : List Frame) (A : Sofar) (B : Base) (L : List Nest) (x y : Cond) → CondStops conjunction (rest s) →
-      going N len s (have_cond K A B L (some x, none) y) ≡ going N len s (have_cond K A B L nothing_cond (any x y))
-  any_alike s K A B L x y n = alike s N len _ _ refl (λ w m. by w (λ e. n (sym m ∙ e)))
+      goes_on V s (have_cond K A B L (some x, none) y) ≡ goes_on V s (have_cond K A B L nothing_cond (any x y))
+  any_alike s K A B L x y n = alike s (names_of V) V.end _ _ refl (λ w m. by w (λ e. n (sym m ∙ e)))
     where
-      by : (w : golog.Word) → (mark_of w ≡ some mark.And → ⊥) → advance N (have_cond K A B L (some x, none) y) w ≡ advance N (have_cond K A B L nothing_cond (any x y)) w
+      by : (w : golog.Word) → (mark_of w ≡ some mark.And → ⊥) → advance (names_of V) (have_cond K A B L (some x, none) y) w ≡ advance (names_of V) (have_cond K A B L nothing_cond (any x y)) w
       by (name w) n = refl
       by open_round n = refl
       by close_round n = refl
@@ -110,13 +110,13 @@ module _ (N : Names) (len d : ℕ) (h : d ≤ most_depth) where
       by strange n = refl
 
   -- up to the mark, past it, and past the part behind it
-  module _ (s a : Reader) (i j : ℕ) (r : CondRead literal N len d s a i) (t : Reader) (q : CondJoined conjunction literal N len d a i t j) where
-    so_far : (K : List Frame) (A : Sofar) (B : Base) (L : List Nest) (O : CondSofar) → no_negation L ≡ true → suc (length K + length L) ≡ d →
-        going N len s (want_cond K A B L (O.0, none)) ≡ going N len t (have_cond K A B L (O.0, none) (cond_at t.tree j))
+  module _ (s a : Reader) (i j : ℕ) (r : CondRead literal V s a i) (t : Reader) (q : CondJoined conjunction literal V a i t j) where
+    so_far : (K : List Frame) (A : Sofar) (B : Base) (L : List Nest) (O : CondSofar) → no_negation L ≡ true → suc (length K + length L) ≡ V.depth →
+        goes_on V s (want_cond K A B L (O.0, none)) ≡ goes_on V t (have_cond K A B L (O.0, none) (cond_at t.tree j))
     so_far K A B L O o e =
-        r.on K A B L (O.0, none) tt e ∙ (ap (going N len a) (operand_open K A B L (O.0, none) (cond_at a.tree i) o) ∙ q.on K A B L O o e)
+        r.on K A B L (O.0, none) tt e ∙ (ap (goes_on V a) (operand_open K A B L (O.0, none) (cond_at a.tree i) o) ∙ q.on K A B L O o e)
 
-    pub conjunction_read : (next_mark (rest t) ≡ some mark.And → ⊥) → CondRead conjunction N len d s t j
+    pub conjunction_read : (next_mark (rest t) ≡ some mark.And → ⊥) → CondRead conjunction V s t j
     conjunction_read n = record {
       fewer = omega (arith, r.fewer, q.fewer);
       stops = n;
@@ -125,23 +125,23 @@ module _ (N : Names) (len d : ℕ) (h : d ≤ most_depth) where
       on = so_far;
     }
 
-    pub conjunction_over : (f : TextFault) → OverDone t (mark_word mark.And) f → CondRefused conjunction N len d s f
-    conjunction_over f x K A B L O o e = refusal f _ _ (so_far K A B L O o e) (x N len _ (want_cond K A B L (O.0, some (cond_at t.tree j))) refl)
+    pub conjunction_over : (f : TextFault) → OverDone t (mark_word mark.And) f → CondRefused conjunction V s f
+    conjunction_over f x K A B L O o e = refusal f _ _ (so_far K A B L O o e) (x (names_of V) V.end _ (want_cond K A B L (O.0, some (cond_at t.tree j))) refl)
 
-    pub conjunction_refused : (b : Reader) → Taken t b (mark_word mark.And) → (f : TextFault) → CondRefused literal N len d b f → CondRefused conjunction N len d s f
+    pub conjunction_refused : (b : Reader) → Taken t b (mark_word mark.And) → (f : TextFault) → CondRefused literal V b f → CondRefused conjunction V s f
     conjunction_refused b p f x K A B L O o e =
         let U = want_cond K A B L (O.0, some (cond_at t.tree j)) in
-        refusal f _ _ (so_far K A B L O o e ∙ p.on N len _ U refl (level K A B L (O.0, some (cond_at t.tree j)) e)) (x K A B L (O.0, some (cond_at t.tree j)) tt e)
+        refusal f _ _ (so_far K A B L O o e ∙ p.on (names_of V) V.end _ U refl (level K A B L (O.0, some (cond_at t.tree j)) e)) (x K A B L (O.0, some (cond_at t.tree j)) tt e)
 
-  module _ (s : Reader) (i : ℕ) (a : Reader) (j : ℕ) (q : CondJoined conjunction literal N len d s i a j) (b c t : Reader) (k m : ℕ)
-      (p : Taken a b (mark_word mark.And)) (r : CondRead literal N len d b c k) (n : BuiltCond c t (both (cond_at c.tree j) (cond_at c.tree k)) m) where
+  module _ (s : Reader) (i : ℕ) (a : Reader) (j : ℕ) (q : CondJoined conjunction literal V s i a j) (b c t : Reader) (k m : ℕ)
+      (p : Taken a b (mark_word mark.And)) (r : CondRead literal V b c k) (n : BuiltCond c t (both (cond_at c.tree j) (cond_at c.tree k)) m) where
     pub and_fewer : length (rest t) < length (rest a)
     and_fewer = subst (λ ts. length ts < length (rest a)) (sym n.unmoved.rests) (omega (arith, p.fewer, r.fewer))
 
     a_to_c : Grows a.tree c.tree
     a_to_c = grows_trans a.tree b.tree c.tree (grows_same a.tree b.tree p.tree) r.grows
 
-    pub and_joined : CondJoined conjunction literal N len d s i t m
+    pub and_joined : CondJoined conjunction literal V s i t m
     and_joined = record {
       fewer = omega (arith, and_fewer, q.fewer);
       stops = tt;
@@ -151,20 +151,20 @@ module _ (N : Names) (len d : ℕ) (h : d ≤ most_depth) where
           let x = cond_at a.tree j in
           let y = cond_at c.tree k in
           q.on K A B L O o e
-          ∙ (p.on N len (have_cond K A B L (O.0, none) x) (want_cond K A B L (O.0, some x)) refl (level K A B L (O.0, some x) e)
+          ∙ (p.on (names_of V) V.end (have_cond K A B L (O.0, none) x) (want_cond K A B L (O.0, some x)) refl (level K A B L (O.0, some x) e)
           ∙ (r.on K A B L (O.0, some x) tt e
-          ∙ (ap (going N len c) (operand_open K A B L (O.0, some x) y o)
+          ∙ (ap (goes_on V c) (operand_open K A B L (O.0, some x) y o)
           ∙ (both_alike c K A B L O.0 x y
-          ∙ (unmoved_going c t n.unmoved N len _
-          ∙ ap (λ z. going N len t (have_cond K A B L (O.0, none) z)) (sym (n.is ∙ ap (λ z. both z y) (cond_stays a.tree c.tree a_to_c j q.there))))))));
+          ∙ (unmoved_going c t n.unmoved (names_of V) V.end _
+          ∙ ap (λ z. goes_on V t (have_cond K A B L (O.0, none) z)) (sym (n.is ∙ ap (λ z. both z y) (cond_stays a.tree c.tree a_to_c j q.there))))))));
     }
 
-  module _ (s a : Reader) (i j : ℕ) (r : CondRead conjunction N len d s a i) (t : Reader) (q : CondJoined disjunction conjunction N len d a i t j) where
-    or_so_far : (K : List Frame) (A : Sofar) (B : Base) (L : List Nest) (O : CondSofar) → no_negation L ≡ true → suc (length K + length L) ≡ d →
-        going N len s (want_cond K A B L nothing_cond) ≡ going N len t (have_cond K A B L nothing_cond (cond_at t.tree j))
+  module _ (s a : Reader) (i j : ℕ) (r : CondRead conjunction V s a i) (t : Reader) (q : CondJoined disjunction conjunction V a i t j) where
+    or_so_far : (K : List Frame) (A : Sofar) (B : Base) (L : List Nest) (O : CondSofar) → no_negation L ≡ true → suc (length K + length L) ≡ V.depth →
+        goes_on V s (want_cond K A B L nothing_cond) ≡ goes_on V t (have_cond K A B L nothing_cond (cond_at t.tree j))
     or_so_far K A B L O o e = r.on K A B L nothing_cond o e ∙ q.on K A B L O o e
 
-    pub disjunction_read : (next_mark (rest t) ≡ some mark.Or → ⊥) → CondRead disjunction N len d s t j
+    pub disjunction_read : (next_mark (rest t) ≡ some mark.Or → ⊥) → CondRead disjunction V s t j
     disjunction_read n = record {
       fewer = omega (arith, r.fewer, q.fewer);
       stops = (q.stops, n);
@@ -173,23 +173,23 @@ module _ (N : Names) (len d : ℕ) (h : d ≤ most_depth) where
       on = or_so_far;
     }
 
-    pub disjunction_over : (f : TextFault) → OverDone t (mark_word mark.Or) f → CondRefused disjunction N len d s f
-    disjunction_over f x K A B L O o e = refusal f _ _ (or_so_far K A B L O o e) (x N len _ (want_cond K A B L (some (cond_at t.tree j), none)) refl)
+    pub disjunction_over : (f : TextFault) → OverDone t (mark_word mark.Or) f → CondRefused disjunction V s f
+    disjunction_over f x K A B L O o e = refusal f _ _ (or_so_far K A B L O o e) (x (names_of V) V.end _ (want_cond K A B L (some (cond_at t.tree j), none)) refl)
 
-    pub disjunction_refused : (b : Reader) → Taken t b (mark_word mark.Or) → (f : TextFault) → CondRefused conjunction N len d b f → CondRefused disjunction N len d s f
+    pub disjunction_refused : (b : Reader) → Taken t b (mark_word mark.Or) → (f : TextFault) → CondRefused conjunction V b f → CondRefused disjunction V s f
     disjunction_refused b p f x K A B L O o e =
         let D : CondSofar = (some (cond_at t.tree j), none) in
-        refusal f _ _ (or_so_far K A B L O o e ∙ p.on N len _ (want_cond K A B L D) refl (level K A B L D e)) (x K A B L D o e)
+        refusal f _ _ (or_so_far K A B L O o e ∙ p.on (names_of V) V.end _ (want_cond K A B L D) refl (level K A B L D e)) (x K A B L D o e)
 
-  module _ (s : Reader) (i : ℕ) (a : Reader) (j : ℕ) (q : CondJoined disjunction conjunction N len d s i a j) (b c t : Reader) (k m : ℕ)
-      (p : Taken a b (mark_word mark.Or)) (r : CondRead conjunction N len d b c k) (n : BuiltCond c t (any (cond_at c.tree j) (cond_at c.tree k)) m) where
+  module _ (s : Reader) (i : ℕ) (a : Reader) (j : ℕ) (q : CondJoined disjunction conjunction V s i a j) (b c t : Reader) (k m : ℕ)
+      (p : Taken a b (mark_word mark.Or)) (r : CondRead conjunction V b c k) (n : BuiltCond c t (any (cond_at c.tree j) (cond_at c.tree k)) m) where
     pub or_fewer : length (rest t) < length (rest a)
     or_fewer = subst (λ ts. length ts < length (rest a)) (sym n.unmoved.rests) (omega (arith, p.fewer, r.fewer))
 
     or_a_to_c : Grows a.tree c.tree
     or_a_to_c = grows_trans a.tree b.tree c.tree (grows_same a.tree b.tree p.tree) r.grows
 
-    pub or_joined : CondJoined disjunction conjunction N len d s i t m
+    pub or_joined : CondJoined disjunction conjunction V s i t m
     or_joined = record {
       fewer = omega (arith, or_fewer, q.fewer);
       stops = λ e. r.stops (sym (ap next_mark n.unmoved.rests) ∙ e);
@@ -200,18 +200,12 @@ module _ (N : Names) (len d : ℕ) (h : d ≤ most_depth) where
           let y = cond_at c.tree k in
           let D : CondSofar = (some x, none) in
           q.on K A B L O o e
-          ∙ (p.on N len (have_cond K A B L nothing_cond x) (want_cond K A B L D) refl (level K A B L D e)
+          ∙ (p.on (names_of V) V.end (have_cond K A B L nothing_cond x) (want_cond K A B L D) refl (level K A B L D e)
           ∙ (r.on K A B L D o e
           ∙ (any_alike c K A B L x y r.stops
-          ∙ (unmoved_going c t n.unmoved N len _
-          ∙ ap (λ z. going N len t (have_cond K A B L nothing_cond z)) (sym (n.is ∙ ap (λ z. any z y) (cond_stays a.tree c.tree or_a_to_c j q.there)))))));
+          ∙ (unmoved_going c t n.unmoved (names_of V) V.end _
+          ∙ ap (λ z. goes_on V t (have_cond K A B L nothing_cond z)) (sym (n.is ∙ ap (λ z. any z y) (cond_stays a.tree c.tree or_a_to_c j q.there)))))));
     }
-
--- the mark that closes a condition
-abbrev pub cond_closer : Base → List Nest → Option Mark
-cond_closer B [] = some (base_closer B)
-cond_closer B (bracket P ∷ L) = some mark.Close
-cond_closer B (negation P ∷ L) = none
 
 module _ (N : Names) (len : ℕ) (K : List Frame) (A : Sofar) (c : Cond) where
   close_unfit : (B : Base) (L : List Nest) → (some mark.Close ≡ cond_closer B L → ⊥) → advance N (have_cond K A B L nothing_cond c) close_round ≡ misfit
@@ -271,24 +265,25 @@ true_is N K A B L O = refl
 pub false_is : (N : Names) → Is N (said False) never
 false_is N K A B L O = refl
 
--- a condition behind not
-module _ (N : Names) (len d : ℕ) (s : Reader) where
-  pub negation_over : (f : TextFault) → OverDeep s (said Not) d f → CondRefused literal N len d s f
-  negation_over f x K A B L O o e = x N len (want_cond K A B L O) (want_cond K A B (negation O ∷ L) nothing_cond) refl (omega arith)
+-- a condition behind not, in brackets, and before the mark that closes it
+module _ (V : Level) (s : Reader) where
+  pub negation_over : (f : TextFault) → OverDeep s (said Not) V.depth f → CondRefused literal V s f
+  negation_over f x K A B L O o e = x (names_of V) V.end (want_cond K A B L O) (want_cond K A B (negation O ∷ L) nothing_cond) refl (omega arith)
 
-  pub bracket_over : (f : TextFault) → OverDeep s (said Open) d f → CondRefused literal N len d s f
-  bracket_over f x K A B L O o e = x N len (want_cond K A B L O) (want_cond K A B (bracket O ∷ L) nothing_cond) refl (omega arith)
+  pub bracket_over : (f : TextFault) → OverDeep s (said Open) V.depth f → CondRefused literal V s f
+  bracket_over f x K A B L O o e = x (names_of V) V.end (want_cond K A B L O) (want_cond K A B (bracket O ∷ L) nothing_cond) refl (omega arith)
 
-  module _ (a : Reader) (e : ℕ) (g : e ≡ d + 1) (h : e ≤ most_depth) where
+  module _ (a : Reader) (W : Level) (g : Deeper V W) where
     module _ (p : Taken s a (said Not)) where
-      not_on : (K : List Frame) (A : Sofar) (B : Base) (L : List Nest) (O : CondSofar) → suc (length K + length L) ≡ d →
-          going N len s (want_cond K A B L O) ≡ going N len a (want_cond K A B (negation O ∷ L) nothing_cond)
-      not_on K A B L O x = p.on N len (want_cond K A B L O) (want_cond K A B (negation O ∷ L) nothing_cond) refl (omega arith)
+      not_on : (K : List Frame) (A : Sofar) (B : Base) (L : List Nest) (O : CondSofar) → suc (length K + length L) ≡ V.depth →
+          goes_on V s (want_cond K A B L O) ≡ goes_on W a (want_cond K A B (negation O ∷ L) nothing_cond)
+      not_on K A B L O x =
+          p.on (names_of V) V.end (want_cond K A B L O) (want_cond K A B (negation O ∷ L) nothing_cond) refl (omega arith) ∙ deeper_on V W g a _
 
-      pub negation_refused : (f : TextFault) → CondRefused literal N len e a f → CondRefused literal N len d s f
+      pub negation_refused : (f : TextFault) → CondRefused literal W a f → CondRefused literal V s f
       negation_refused f x K A B L O o y = refusal f _ _ (not_on K A B L O y) (x K A B (negation O ∷ L) nothing_cond tt (omega arith))
 
-      pub negation_read : (b t : Reader) (i j : ℕ) → CondRead literal N len e a b i → BuiltCond b t (negated (cond_at b.tree i)) j → CondRead literal N len d s t j
+      pub negation_read : (b t : Reader) (i j : ℕ) → CondRead literal W a b i → BuiltCond b t (negated (cond_at b.tree i)) j → CondRead literal V s t j
       negation_read b t i j r n = record {
         fewer = subst (λ ts. length ts < length (rest s)) (sym n.unmoved.rests) (omega (arith, p.fewer, r.fewer));
         stops = tt;
@@ -297,37 +292,49 @@ module _ (N : Names) (len d : ℕ) (s : Reader) where
         on = λ K A B L O o y.
             not_on K A B L O y
             ∙ (r.on K A B (negation O ∷ L) nothing_cond tt (omega arith)
-            ∙ (unmoved_going b t n.unmoved N len _ ∙ ap (λ z. going N len t (operand K A B L O z)) (sym n.is)));
+            ∙ (sym (deeper_on V W g b _)
+            ∙ (unmoved_going b t n.unmoved (names_of V) V.end _ ∙ ap (λ z. goes_on V t (operand K A B L O z)) (sym n.is))));
       }
 
     module _ (p : Taken s a (said Open)) where
-      open_on : (K : List Frame) (A : Sofar) (B : Base) (L : List Nest) (O : CondSofar) → suc (length K + length L) ≡ d →
-          going N len s (want_cond K A B L O) ≡ going N len a (want_cond K A B (bracket O ∷ L) nothing_cond)
-      open_on K A B L O x = p.on N len (want_cond K A B L O) (want_cond K A B (bracket O ∷ L) nothing_cond) refl (omega arith)
+      open_on : (K : List Frame) (A : Sofar) (B : Base) (L : List Nest) (O : CondSofar) → suc (length K + length L) ≡ V.depth →
+          goes_on V s (want_cond K A B L O) ≡ goes_on W a (want_cond K A B (bracket O ∷ L) nothing_cond)
+      open_on K A B L O x =
+          p.on (names_of V) V.end (want_cond K A B L O) (want_cond K A B (bracket O ∷ L) nothing_cond) refl (omega arith) ∙ deeper_on V W g a _
 
-      pub bracket_refused : (f : TextFault) → CondRefused disjunction N len e a f → CondRefused literal N len d s f
-      bracket_refused f x K A B L O o y = refusal f _ _ (open_on K A B L O y) (x K A B (bracket O ∷ L) nothing_cond refl (omega arith))
+      pub bracket_refused : (f : TextFault) → CondUnclosed W a mark.Close f → CondRefused literal V s f
+      bracket_refused f x K A B L O o y =
+          refusal f _ _ (open_on K A B L O y) (x K A B (bracket O ∷ L) refl (omega arith) refl (λ c. (operand K A B L O c, refl)))
 
-      module _ (b : Reader) (i : ℕ) (r : CondRead disjunction N len e a b i) where
-        inside_on : (K : List Frame) (A : Sofar) (B : Base) (L : List Nest) (O : CondSofar) → suc (length K + length L) ≡ d →
-            going N len s (want_cond K A B L O) ≡ going N len b (have_cond K A B (bracket O ∷ L) nothing_cond (cond_at b.tree i))
-        inside_on K A B L O y = open_on K A B L O y ∙ r.on K A B (bracket O ∷ L) nothing_cond refl (omega arith)
+      pub bracket_read : (t : Reader) (i : ℕ) → CondClosed W a t mark.Close i → CondRead literal V s t i
+      bracket_read t i r = record {
+        fewer = omega (arith, p.fewer, r.fewer);
+        stops = tt;
+        grows = grows_trans s.tree a.tree t.tree (grows_same s.tree a.tree p.tree) r.grows;
+        there = r.there;
+        on = λ K A B L O o y.
+            let c = cond_at t.tree i in
+            open_on K A B L O y
+            ∙ (r.on K A B (bracket O ∷ L) (operand K A B L O c) refl (omega arith) refl (let l = operand_depth K A B L O c in omega (arith, l))
+            ∙ sym (deeper_on V W g t _));
+      }
 
-        pub bracket_unclosed : (f : TextFault) → Unclosed b mark.Close len f → CondRefused literal N len d s f
-        bracket_unclosed f x K A B L O o y =
-            refusal f _ _ (inside_on K A B L O y)
-            (x N _ (operand K A B L O (cond_at b.tree i)) refl (λ n. cond_unfit N len K A (cond_at b.tree i) B (bracket O ∷ L) (rest b) r.stops n))
+  pub closed_refused : (m : Mark) (f : TextFault) → CondRefused disjunction V s f → CondUnclosed V s m f
+  closed_refused m f x K A B L o e k u = x K A B L nothing_cond o e
 
-        pub bracket_read : (t : Reader) → Taken b t (mark_word mark.Close) → CondRead literal N len d s t i
-        bracket_read t q = record {
-          fewer = omega (arith, p.fewer, r.fewer, q.fewer);
-          stops = tt;
-          grows = grows_trans s.tree a.tree t.tree (grows_same s.tree a.tree p.tree) (grows_trans a.tree b.tree t.tree r.grows (grows_same b.tree t.tree q.tree));
-          there = subst (λ u. i < length (clauses u)) (sym q.tree) r.there;
-          on = λ K A B L O o y.
-              let c = cond_at b.tree i in
-              inside_on K A B L O y
-              ∙ (q.on N len (have_cond K A B (bracket O ∷ L) nothing_cond c) (operand K A B L O c) refl
-              (let l = operand_depth K A B L O c in omega (arith, l))
-              ∙ ap (λ u. going N len t (operand K A B L O (cond_at u i))) (sym q.tree));
-        }
+  module _ (m : Mark) (a : Reader) (i : ℕ) (r : CondRead disjunction V s a i) where
+    pub closed_not : (f : TextFault) → Unclosed a m V.end f → CondUnclosed V s m f
+    closed_not f x K A B L o e k u =
+        let z = u (cond_at a.tree i) in
+        refusal f _ _ (r.on K A B L nothing_cond o e)
+        (x (names_of V) _ z.0 z.1 (λ n. cond_unfit (names_of V) V.end K A (cond_at a.tree i) B L (rest a) r.stops (λ v. n (v ∙ k))))
+
+    pub closed_read : (t : Reader) → Taken a t (mark_word m) → CondClosed V s t m i
+    closed_read t q = record {
+      fewer = omega (arith, r.fewer, q.fewer);
+      grows = grows_trans s.tree a.tree t.tree r.grows (grows_same a.tree t.tree q.tree);
+      there = subst (λ u. i < length (clauses u)) (sym q.tree) r.there;
+      on = λ K A B L U o e y l.
+          r.on K A B L nothing_cond o e
+          ∙ q.on (names_of V) V.end _ U (subst (λ u. advance (names_of V) (have_cond K A B L nothing_cond (cond_at u i)) (mark_word m) ≡ goes U) q.tree y) l;
+    }

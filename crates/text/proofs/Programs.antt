@@ -1,5 +1,5 @@
 -- Reading programs.
-use Rattle.std.proofs.Common.{◌≡◌, ℕ, ◌+◌, ◌<◌, ◌≤◌, List, [], ◌∷◌, length, sym, refl, ap, ◌∙◌, subst, ap₂, arith}
+use Rattle.std.proofs.Common.{◌≡◌, ℕ, ◌<◌, ◌≤◌, List, [], ◌∷◌, length, sym, refl, ap, ◌∙◌, subst, ap₂, arith}
 use mathlib.Core.Option.{Option, none, some}
 use Rattle.golog.specs.Programs as golog
 use Rattle.golog.specs.Programs.{Cond, Prog, if_then_else, while_do}
@@ -10,9 +10,8 @@ use Rattle.golog.specs.Words.Word.{name, open_round, close_round, begins, behind
 use Rattle.golog.specs.Words.Begin.{open_square, nil_word, if_word, while_word}
 use Rattle.golog.specs.Words.Behind.{asterisk, semicolon, bar, else_word, fi_word, od_word}
 use Rattle.golog.specs.Grammar.{Names, number_of}
-use Rattle.golog.specs.Grammar.CondSort.{disjunction}
 use Rattle.golog.specs.Grammar.Sort.{choice, sequence, item, atom}
-use Rattle.golog.specs.Reading.{Sofar, Frame, Base, nothing, nothing_cond, whole, act_word, advance, depth, finish, most_depth}
+use Rattle.golog.specs.Reading.{Sofar, Frame, Base, State, nothing, nothing_cond, whole, act_word, advance, depth, finish, most_depth}
 use Rattle.golog.specs.Reading.Reading.{tree}
 use Rattle.golog.specs.Reading.Frame.{in_round, in_then, in_else, in_do}
 use Rattle.golog.specs.Reading.Base.{of_test, of_if, of_while}
@@ -22,16 +21,16 @@ use Rattle.tree.specs.Held.{clauses, nodes, cond_at, prog_at}
 use Rattle.text.specs.declared.word.Mark.{Mark}
 use Rattle.text.specs.declared.word.Mark.TheVariants as mark
 use Rattle.text.specs.declared.fault.TextFault.{TextFault}
+use Rattle.text.specs.declared.reader.Level.{Level}
 use Rattle.text.specs.declared.reader.Reader.{Reader}
 use Rattle.text.specs.Said.{mark_word}
-use Rattle.text.specs.Rest.{rest, going, mark_of, next_mark}
+use Rattle.text.specs.Rest.{rest, going, names_of, goes_on, Deeper, mark_of, next_mark}
 use Rattle.text.specs.Steps.{Taken, TakenAct, OverDone, OverDoneAct, OverDeep, Unfit, Unclosed}
-use Rattle.text.specs.Built.{Grows, BuiltCond, Built}
-use Rattle.text.specs.Conds.{CondRead, CondRefused}
-use Rattle.text.specs.Progs.{ProgStops, ProgRead, ProgJoined, ProgRefused, frame_closer, GuardRead, GuardRefused, InsideRead, InsideRefused}
-use Rattle.text.proofs.Stepping.{alike, refusal}
+use Rattle.text.specs.Built.{Grows, Built}
+use Rattle.text.specs.Conds.{base_closer, CondClosed, CondUnclosed, CondTaken}
+use Rattle.text.specs.Progs.{ProgStops, ProgRead, ProgJoined, ProgRefused, frame_closer, InsideRead, InsideRefused}
+use Rattle.text.proofs.Stepping.{alike, refusal, deeper_on}
 use Rattle.text.proofs.Growing.{grows_same, grows_trans, cond_there, prog_there, cond_stays, prog_stays, unmoved_going}
-use Rattle.text.proofs.Conditions.{cond_unfit}
 
 -- a program with what was read before it, and the same joined
 module _ (N : Names) (len : ℕ) (s : Reader) (K : List Frame) where
@@ -76,18 +75,18 @@ module _ (N : Names) (len : ℕ) (s : Reader) (K : List Frame) where
       by strange n o = refl
 
 -- the loops: the part at hand, and what was joined to it
-module _ (N : Names) (len d : ℕ) (h : d ≤ most_depth) where
-  level : (K : List Frame) (A : Sofar) → length K ≡ d → depth (want K A) ≤ most_depth
+module _ (V : Level) where
+  level : (K : List Frame) (A : Sofar) → length K ≡ V.depth → depth (want K A) ≤ most_depth
   level K A e = omega arith
 
-  level_have : (K : List Frame) (A : Sofar) (p : Prog) → length K ≡ d → depth (have K A p) ≤ most_depth
+  level_have : (K : List Frame) (A : Sofar) (p : Prog) → length K ≡ V.depth → depth (have K A p) ≤ most_depth
   level_have K A p e = omega arith
 
-  module _ (s a : Reader) (i j : ℕ) (r : ProgRead atom N len d s a i) (t : Reader) (q : ProgJoined item atom N len d a i t j) where
-    star_so_far : (K : List Frame) (A : Sofar) → length K ≡ d → going N len s (want K A) ≡ going N len t (have K A (prog_at t.tree j))
+  module _ (s a : Reader) (i j : ℕ) (r : ProgRead atom V s a i) (t : Reader) (q : ProgJoined item atom V a i t j) where
+    star_so_far : (K : List Frame) (A : Sofar) → length K ≡ V.depth → goes_on V s (want K A) ≡ goes_on V t (have K A (prog_at t.tree j))
     star_so_far K A e = r.on K A e ∙ q.on K A e
 
-    pub item_read : (next_mark (rest t) ≡ some mark.Star → ⊥) → ProgRead item N len d s t j
+    pub item_read : (next_mark (rest t) ≡ some mark.Star → ⊥) → ProgRead item V s t j
     item_read n = record {
       fewer = omega (arith, r.fewer, q.fewer);
       stops = n;
@@ -96,15 +95,15 @@ module _ (N : Names) (len d : ℕ) (h : d ≤ most_depth) where
       on = star_so_far;
     }
 
-    pub item_over : (f : TextFault) → OverDone t (mark_word mark.Star) f → ProgRefused item N len d s f
-    item_over f x K A e = refusal f _ _ (star_so_far K A e) (x N len _ (have K A (star (prog_at t.tree j))) refl)
+    pub item_over : (f : TextFault) → OverDone t (mark_word mark.Star) f → ProgRefused item V s f
+    item_over f x K A e = refusal f _ _ (star_so_far K A e) (x (names_of V) V.end _ (have K A (star (prog_at t.tree j))) refl)
 
-  module _ (s : Reader) (i : ℕ) (a : Reader) (j : ℕ) (q : ProgJoined item atom N len d s i a j) (b t : Reader) (m : ℕ)
+  module _ (s : Reader) (i : ℕ) (a : Reader) (j : ℕ) (q : ProgJoined item atom V s i a j) (b t : Reader) (m : ℕ)
       (p : Taken a b (mark_word mark.Star)) (n : Built b t (star (prog_at b.tree j)) m) where
     star_fewer : length (rest t) < length (rest a)
     star_fewer = subst (λ ts. length ts < length (rest a)) (sym n.unmoved.rests) p.fewer
 
-    pub star_joined : ProgJoined item atom N len d s i t m
+    pub star_joined : ProgJoined item atom V s i t m
     star_joined = record {
       fewer = omega (arith, star_fewer, q.fewer);
       stops = tt;
@@ -113,15 +112,15 @@ module _ (N : Names) (len d : ℕ) (h : d ≤ most_depth) where
       on = λ K A e.
           let x = prog_at a.tree j in
           q.on K A e
-          ∙ (p.on N len (have K A x) (have K A (star x)) refl (level_have K A (star x) e)
-          ∙ (unmoved_going b t n.unmoved N len _ ∙ ap (λ z. going N len t (have K A z)) (sym (n.is ∙ ap (λ u. star (prog_at u j)) p.tree))));
+          ∙ (p.on (names_of V) V.end (have K A x) (have K A (star x)) refl (level_have K A (star x) e)
+          ∙ (unmoved_going b t n.unmoved (names_of V) V.end _ ∙ ap (λ z. goes_on V t (have K A z)) (sym (n.is ∙ ap (λ u. star (prog_at u j)) p.tree))));
     }
 
-  module _ (s a : Reader) (i j : ℕ) (r : ProgRead item N len d s a i) (t : Reader) (q : ProgJoined sequence item N len d a i t j) where
-    seq_so_far : (K : List Frame) (A : Sofar) → length K ≡ d → going N len s (want K (A.0, none)) ≡ going N len t (have K (A.0, none) (prog_at t.tree j))
+  module _ (s a : Reader) (i j : ℕ) (r : ProgRead item V s a i) (t : Reader) (q : ProgJoined sequence item V a i t j) where
+    seq_so_far : (K : List Frame) (A : Sofar) → length K ≡ V.depth → goes_on V s (want K (A.0, none)) ≡ goes_on V t (have K (A.0, none) (prog_at t.tree j))
     seq_so_far K A e = r.on K (A.0, none) e ∙ q.on K A e
 
-    pub sequence_read : (next_mark (rest t) ≡ some mark.Semicolon → ⊥) → ProgRead sequence N len d s t j
+    pub sequence_read : (next_mark (rest t) ≡ some mark.Semicolon → ⊥) → ProgRead sequence V s t j
     sequence_read n = record {
       fewer = omega (arith, r.fewer, q.fewer);
       stops = (q.stops, n);
@@ -130,23 +129,23 @@ module _ (N : Names) (len d : ℕ) (h : d ≤ most_depth) where
       on = seq_so_far;
     }
 
-    pub sequence_over : (f : TextFault) → OverDone t (mark_word mark.Semicolon) f → ProgRefused sequence N len d s f
-    sequence_over f x K A e = refusal f _ _ (seq_so_far K A e) (x N len _ (want K (A.0, some (prog_at t.tree j))) refl)
+    pub sequence_over : (f : TextFault) → OverDone t (mark_word mark.Semicolon) f → ProgRefused sequence V s f
+    sequence_over f x K A e = refusal f _ _ (seq_so_far K A e) (x (names_of V) V.end _ (want K (A.0, some (prog_at t.tree j))) refl)
 
-    pub sequence_refused : (b : Reader) → Taken t b (mark_word mark.Semicolon) → (f : TextFault) → ProgRefused item N len d b f → ProgRefused sequence N len d s f
+    pub sequence_refused : (b : Reader) → Taken t b (mark_word mark.Semicolon) → (f : TextFault) → ProgRefused item V b f → ProgRefused sequence V s f
     sequence_refused b p f x K A e =
         let C : Sofar = (A.0, some (prog_at t.tree j)) in
-        refusal f _ _ (seq_so_far K A e ∙ p.on N len _ (want K C) refl (level K C e)) (x K C e)
+        refusal f _ _ (seq_so_far K A e ∙ p.on (names_of V) V.end _ (want K C) refl (level K C e)) (x K C e)
 
-  module _ (s : Reader) (i : ℕ) (a : Reader) (j : ℕ) (q : ProgJoined sequence item N len d s i a j) (b c t : Reader) (k m : ℕ)
-      (p : Taken a b (mark_word mark.Semicolon)) (r : ProgRead item N len d b c k) (n : Built c t (seq (prog_at c.tree j) (prog_at c.tree k)) m) where
+  module _ (s : Reader) (i : ℕ) (a : Reader) (j : ℕ) (q : ProgJoined sequence item V s i a j) (b c t : Reader) (k m : ℕ)
+      (p : Taken a b (mark_word mark.Semicolon)) (r : ProgRead item V b c k) (n : Built c t (seq (prog_at c.tree j) (prog_at c.tree k)) m) where
     seq_fewer : length (rest t) < length (rest a)
     seq_fewer = subst (λ ts. length ts < length (rest a)) (sym n.unmoved.rests) (omega (arith, p.fewer, r.fewer))
 
     seq_grows : Grows a.tree c.tree
     seq_grows = grows_trans a.tree b.tree c.tree (grows_same a.tree b.tree p.tree) r.grows
 
-    pub seq_joined : ProgJoined sequence item N len d s i t m
+    pub seq_joined : ProgJoined sequence item V s i t m
     seq_joined = record {
       fewer = omega (arith, seq_fewer, q.fewer);
       stops = λ e. r.stops (sym (ap next_mark n.unmoved.rests) ∙ e);
@@ -157,18 +156,18 @@ module _ (N : Names) (len d : ℕ) (h : d ≤ most_depth) where
           let y = prog_at c.tree k in
           let C : Sofar = (A.0, some x) in
           q.on K A e
-          ∙ (p.on N len (have K (A.0, none) x) (want K C) refl (level K C e)
+          ∙ (p.on (names_of V) V.end (have K (A.0, none) x) (want K C) refl (level K C e)
           ∙ (r.on K C e
-          ∙ (seq_alike N len c K A.0 x y r.stops
-          ∙ (unmoved_going c t n.unmoved N len _
-          ∙ ap (λ z. going N len t (have K (A.0, none) z)) (sym (n.is ∙ ap (λ z. seq z y) (prog_stays a.tree c.tree seq_grows j q.there)))))));
+          ∙ (seq_alike (names_of V) V.end c K A.0 x y r.stops
+          ∙ (unmoved_going c t n.unmoved (names_of V) V.end _
+          ∙ ap (λ z. goes_on V t (have K (A.0, none) z)) (sym (n.is ∙ ap (λ z. seq z y) (prog_stays a.tree c.tree seq_grows j q.there)))))));
     }
 
-  module _ (s a : Reader) (i j : ℕ) (r : ProgRead sequence N len d s a i) (t : Reader) (q : ProgJoined choice sequence N len d a i t j) where
-    alt_so_far : (K : List Frame) (A : Sofar) → length K ≡ d → going N len s (want K nothing) ≡ going N len t (have K nothing (prog_at t.tree j))
+  module _ (s a : Reader) (i j : ℕ) (r : ProgRead sequence V s a i) (t : Reader) (q : ProgJoined choice sequence V a i t j) where
+    alt_so_far : (K : List Frame) (A : Sofar) → length K ≡ V.depth → goes_on V s (want K nothing) ≡ goes_on V t (have K nothing (prog_at t.tree j))
     alt_so_far K A e = r.on K nothing e ∙ q.on K A e
 
-    pub choice_read : (next_mark (rest t) ≡ some mark.Bar → ⊥) → ProgRead choice N len d s t j
+    pub choice_read : (next_mark (rest t) ≡ some mark.Bar → ⊥) → ProgRead choice V s t j
     choice_read n = record {
       fewer = omega (arith, r.fewer, q.fewer);
       stops = (q.stops.0, q.stops.1, n);
@@ -177,23 +176,23 @@ module _ (N : Names) (len d : ℕ) (h : d ≤ most_depth) where
       on = alt_so_far;
     }
 
-    pub choice_over : (f : TextFault) → OverDone t (mark_word mark.Bar) f → ProgRefused choice N len d s f
-    choice_over f x K A e = refusal f _ _ (alt_so_far K A e) (x N len _ (want K (some (prog_at t.tree j), none)) refl)
+    pub choice_over : (f : TextFault) → OverDone t (mark_word mark.Bar) f → ProgRefused choice V s f
+    choice_over f x K A e = refusal f _ _ (alt_so_far K A e) (x (names_of V) V.end _ (want K (some (prog_at t.tree j), none)) refl)
 
-    pub choice_refused : (b : Reader) → Taken t b (mark_word mark.Bar) → (f : TextFault) → ProgRefused sequence N len d b f → ProgRefused choice N len d s f
+    pub choice_refused : (b : Reader) → Taken t b (mark_word mark.Bar) → (f : TextFault) → ProgRefused sequence V b f → ProgRefused choice V s f
     choice_refused b p f x K A e =
         let C : Sofar = (some (prog_at t.tree j), none) in
-        refusal f _ _ (alt_so_far K A e ∙ p.on N len _ (want K C) refl (level K C e)) (x K C e)
+        refusal f _ _ (alt_so_far K A e ∙ p.on (names_of V) V.end _ (want K C) refl (level K C e)) (x K C e)
 
-  module _ (s : Reader) (i : ℕ) (a : Reader) (j : ℕ) (q : ProgJoined choice sequence N len d s i a j) (b c t : Reader) (k m : ℕ)
-      (p : Taken a b (mark_word mark.Bar)) (r : ProgRead sequence N len d b c k) (n : Built c t (alt (prog_at c.tree j) (prog_at c.tree k)) m) where
+  module _ (s : Reader) (i : ℕ) (a : Reader) (j : ℕ) (q : ProgJoined choice sequence V s i a j) (b c t : Reader) (k m : ℕ)
+      (p : Taken a b (mark_word mark.Bar)) (r : ProgRead sequence V b c k) (n : Built c t (alt (prog_at c.tree j) (prog_at c.tree k)) m) where
     alt_fewer : length (rest t) < length (rest a)
     alt_fewer = subst (λ ts. length ts < length (rest a)) (sym n.unmoved.rests) (omega (arith, p.fewer, r.fewer))
 
     alt_grows : Grows a.tree c.tree
     alt_grows = grows_trans a.tree b.tree c.tree (grows_same a.tree b.tree p.tree) r.grows
 
-    pub alt_joined : ProgJoined choice sequence N len d s i t m
+    pub alt_joined : ProgJoined choice sequence V s i t m
     alt_joined = record {
       fewer = omega (arith, alt_fewer, q.fewer);
       stops = (λ e. r.stops.0 (sym (ap next_mark n.unmoved.rests) ∙ e), λ e. r.stops.1 (sym (ap next_mark n.unmoved.rests) ∙ e));
@@ -204,11 +203,11 @@ module _ (N : Names) (len d : ℕ) (h : d ≤ most_depth) where
           let y = prog_at c.tree k in
           let C : Sofar = (some x, none) in
           q.on K A e
-          ∙ (p.on N len (have K nothing x) (want K C) refl (level K C e)
+          ∙ (p.on (names_of V) V.end (have K nothing x) (want K C) refl (level K C e)
           ∙ (r.on K C e
-          ∙ (alt_alike N len c K x y r.stops
-          ∙ (unmoved_going c t n.unmoved N len _
-          ∙ ap (λ z. going N len t (have K nothing z)) (sym (n.is ∙ ap (λ z. alt z y) (prog_stays a.tree c.tree alt_grows j q.there)))))));
+          ∙ (alt_alike (names_of V) V.end c K x y r.stops
+          ∙ (unmoved_going c t n.unmoved (names_of V) V.end _
+          ∙ ap (λ z. goes_on V t (have K nothing z)) (sym (n.is ∙ ap (λ z. alt z y) (prog_stays a.tree c.tree alt_grows j q.there)))))));
     }
 
 -- what is next has no place behind a choice that it neither joins nor closes
@@ -277,188 +276,171 @@ whole_unfit N p [] x more len e s = absurd (not_cons e)
 whole_unfit N p (t ∷ ts) x more len e s = choice_unfit N p [] t.word s.0 s.1 s.2 (λ m a b. none_some m b)
 
 -- a choice, and the mark that closes it
-module _ (N : Names) (len d : ℕ) (s : Reader) (m : Mark) where
-  pub inside_refused : (f : TextFault) → ProgRefused choice N len d s f → InsideRefused N len d s m f
+module _ (V : Level) (s : Reader) (m : Mark) where
+  pub inside_refused : (f : TextFault) → ProgRefused choice V s f → InsideRefused V s m f
   inside_refused f x F K e g h = x (F ∷ K) nothing e
 
-  module _ (a : Reader) (i : ℕ) (r : ProgRead choice N len d s a i) where
-    pub inside_unclosed : (f : TextFault) → Unclosed a m len f → InsideRefused N len d s m f
+  module _ (a : Reader) (i : ℕ) (r : ProgRead choice V s a i) where
+    pub inside_unclosed : (f : TextFault) → Unclosed a m V.end f → InsideRefused V s m f
     inside_unclosed f x F K e g h =
         let y = h (prog_at a.tree i) in
         refusal f _ _ (r.on (F ∷ K) nothing e)
-        (x N _ y.0 y.1 (λ n. inside_unfit N (prog_at a.tree i) len F K (rest a) r.stops (λ z. n (z ∙ ap some g))))
+        (x (names_of V) _ y.0 y.1 (λ n. inside_unfit (names_of V) (prog_at a.tree i) V.end F K (rest a) r.stops (λ z. n (z ∙ ap some g))))
 
-    pub inside_read : (t : Reader) → Taken a t (mark_word m) → InsideRead N len d s t m i
+    pub inside_read : (t : Reader) → Taken a t (mark_word m) → InsideRead V s t m i
     inside_read t p = record {
       fewer = omega (arith, r.fewer, p.fewer);
       grows = grows_trans s.tree a.tree t.tree r.grows (grows_same a.tree t.tree p.tree);
       there = subst (λ u. i < length (nodes u)) (sym p.tree) r.there;
       on = λ F K U e x l.
-          r.on (F ∷ K) nothing e ∙ p.on N len _ U (subst (λ u. advance N (have (F ∷ K) nothing (prog_at u i)) (mark_word m) ≡ goes U) p.tree x) l;
+          r.on (F ∷ K) nothing e ∙ p.on (names_of V) V.end _ U (subst (λ u. advance (names_of V) (have (F ∷ K) nothing (prog_at u i)) (mark_word m) ≡ goes U) p.tree x) l;
     }
 
--- a word, the condition behind it, and the mark that closes that
-module _ (N : Names) (len d : ℕ) (s : Reader) (w : text.Word) (m : Mark) where
-  pub guard_over : (f : TextFault) → OverDeep s w d f → GuardRefused N len d s w m f
-  guard_over f x K A B e b g h = x N len (want K A) (want_cond K A B [] nothing_cond) b (omega arith)
-
-  module _ (a : Reader) (e : ℕ) (g : e ≡ d + 1) (h : e ≤ most_depth) (p : Taken s a w) where
-    guard_on : (K : List Frame) (A : Sofar) (B : Base) → length K ≡ d → advance N (want K A) w ≡ goes (want_cond K A B [] nothing_cond) →
-        going N len s (want K A) ≡ going N len a (want_cond K A B [] nothing_cond)
-    guard_on K A B x b = p.on N len (want K A) (want_cond K A B [] nothing_cond) b (omega arith)
-
-    pub guard_refused : (f : TextFault) → CondRefused disjunction N len e a f → GuardRefused N len d s w m f
-    guard_refused f y K A B x b c k = refusal f _ _ (guard_on K A B x b) (y K A B [] nothing_cond refl (omega arith))
-
-    module _ (c : Reader) (i : ℕ) (r : CondRead disjunction N len e a c i) where
-      guard_cond : (K : List Frame) (A : Sofar) (B : Base) → length K ≡ d → advance N (want K A) w ≡ goes (want_cond K A B [] nothing_cond) →
-          going N len s (want K A) ≡ going N len c (have_cond K A B [] nothing_cond (cond_at c.tree i))
-      guard_cond K A B x b = guard_on K A B x b ∙ r.on K A B [] nothing_cond refl (omega arith)
-
-      pub guard_unclosed : (f : TextFault) → Unclosed c m len f → GuardRefused N len d s w m f
-      guard_unclosed f y K A B x b k u =
-          let z = u (cond_at c.tree i) in
-          refusal f _ _ (guard_cond K A B x b)
-          (y N _ z.0 z.1 (λ n. cond_unfit N len K A (cond_at c.tree i) B [] (rest c) r.stops (λ v. n (v ∙ ap some k))))
-
-      pub guard_read : (t : Reader) → Taken c t (mark_word m) → GuardRead N len d s t w m i
-      guard_read t q = record {
-        fewer = omega (arith, p.fewer, r.fewer, q.fewer);
-        grows = grows_trans s.tree a.tree t.tree (grows_same s.tree a.tree p.tree) (grows_trans a.tree c.tree t.tree r.grows (grows_same c.tree t.tree q.tree));
-        there = subst (λ u. i < length (clauses u)) (sym q.tree) r.there;
-        deep = omega arith;
-        on = λ K A B U x b y l.
-            guard_cond K A B x b ∙ q.on N len _ U (subst (λ u. advance N (have_cond K A B [] nothing_cond (cond_at u i)) (mark_word m) ≡ goes U) q.tree y) l;
-      }
-
 -- atoms
-module _ (N : Names) (len d : ℕ) (h : d ≤ most_depth) (s : Reader) where
-  deep_have : (K : List Frame) (A : Sofar) (p : Prog) → length K ≡ d → depth (have K A p) ≤ most_depth
+module _ (V : Level) (s : Reader) where
+  deep_have : (K : List Frame) (A : Sofar) (p : Prog) → length K ≡ V.depth → depth (have K A p) ≤ most_depth
   deep_have K A p e = omega arith
 
   atom_built : (a t : Reader) (p : Prog) (i : ℕ) → length (rest a) < length (rest s) → Grows s.tree a.tree →
-      ((K : List Frame) (A : Sofar) → length K ≡ d → going N len s (want K A) ≡ going N len a (have K A p)) → Built a t p i → ProgRead atom N len d s t i
+      ((K : List Frame) (A : Sofar) → length K ≡ V.depth → goes_on V s (want K A) ≡ goes_on V a (have K A p)) → Built a t p i → ProgRead atom V s t i
   atom_built a t p i l g on b = record {
     fewer = subst (λ ts. length ts < length (rest s)) (sym b.unmoved.rests) l;
     stops = tt;
     grows = grows_trans s.tree a.tree t.tree g b.grows;
     there = b.there;
-    on = λ K A e. on K A e ∙ (unmoved_going a t b.unmoved N len _ ∙ ap (λ z. going N len t (have K A z)) (sym b.is));
+    on = λ K A e. on K A e ∙ (unmoved_going a t b.unmoved (names_of V) V.end _ ∙ ap (λ z. goes_on V t (have K A z)) (sym b.is));
   }
 
-  module _ (w : text.Word) (v : List ℕ) (n : ℕ) (is : w ≡ name v) (k : number_of N.acts v ≡ some n) where
-    act_on : (K : List Frame) (A : Sofar) → advance N (want K A) w ≡ goes_by_act (have K A (act n))
-    act_on K A = ap (advance N (want K A)) is ∙ ap (act_word K A) k
+  module _ (w : text.Word) (v : List ℕ) (n : ℕ) (is : w ≡ name v) (k : number_of (names_of V).acts v ≡ some n) where
+    act_on : (K : List Frame) (A : Sofar) → advance (names_of V) (want K A) w ≡ goes_by_act (have K A (act n))
+    act_on K A = ap (advance (names_of V) (want K A)) is ∙ ap (act_word K A) k
 
-    pub act_over : (f : TextFault) → OverDoneAct s w f → ProgRefused atom N len d s f
-    act_over f x K A e = x N len (want K A) (have K A (act n)) (act_on K A)
+    pub act_over : (f : TextFault) → OverDoneAct s w f → ProgRefused atom V s f
+    act_over f x K A e = x (names_of V) V.end (want K A) (have K A (act n)) (act_on K A)
 
-    pub act_read : (a t : Reader) (i : ℕ) → TakenAct s a w → Built a t (act n) i → ProgRead atom N len d s t i
+    pub act_read : (a t : Reader) (i : ℕ) → TakenAct s a w → Built a t (act n) i → ProgRead atom V s t i
     act_read a t i p b =
         atom_built a t (act n) i p.fewer (grows_same s.tree a.tree p.tree)
-        (λ K A e. p.on N len (want K A) (have K A (act n)) (act_on K A) (deep_have K A (act n) e)) b
+        (λ K A e. p.on (names_of V) V.end (want K A) (have K A (act n)) (act_on K A) (deep_have K A (act n) e)) b
 
-  pub act_unknown : (w : text.Word) (v : List ℕ) → w ≡ name v → (K : List Frame) (A : Sofar) → number_of N.acts v ≡ none → advance N (want K A) w ≡ unfamiliar
-  act_unknown w v is K A n = ap (advance N (want K A)) is ∙ ap (act_word K A) n
+  pub act_unknown : (w : text.Word) (v : List ℕ) → w ≡ name v → (K : List Frame) (A : Sofar) → number_of (names_of V).acts v ≡ none →
+      advance (names_of V) (want K A) w ≡ unfamiliar
+  act_unknown w v is K A n = ap (advance (names_of V) (want K A)) is ∙ ap (act_word K A) n
 
-  module _ (w : text.Word) (is : w ≡ begins nil_word) where
-    pub nil_over : (f : TextFault) → OverDone s w f → ProgRefused atom N len d s f
-    nil_over f x K A e = x N len (want K A) (have K A golog.nil) (ap (advance N (want K A)) is)
+  pub nil_over : (f : TextFault) → OverDone s (begins nil_word) f → ProgRefused atom V s f
+  nil_over f x K A e = x (names_of V) V.end (want K A) (have K A golog.nil) refl
 
-    pub nil_read : (a b t : Reader) (c i : ℕ) → Taken s a w → BuiltCond a b always c → Built b t (test (cond_at b.tree c)) i → ProgRead atom N len d s t i
-    nil_read a b t c i p q r =
-        atom_built b t (test (cond_at b.tree c)) i (subst (λ ts. length ts < length (rest s)) (sym q.unmoved.rests) p.fewer)
-        (grows_trans s.tree a.tree b.tree (grows_same s.tree a.tree p.tree) q.grows)
+  pub nil_read : (a t : Reader) (c i : ℕ) → CondTaken s a (begins nil_word) always c → Built a t (test (cond_at a.tree c)) i → ProgRead atom V s t i
+  nil_read a t c i p b =
+      atom_built a t (test (cond_at a.tree c)) i p.fewer p.grows
+      (λ K A e.
+      p.on (names_of V) V.end (want K A) (have K A golog.nil) refl (deep_have K A golog.nil e) ∙ ap (λ z. goes_on V a (have K A (test z))) (sym p.is)) b
+
+  -- a word that a condition follows, the condition, and the mark that closes that
+  module _ (w : text.Word) (B : Base) (opens : (K : List Frame) (A : Sofar) → advance (names_of V) (want K A) w ≡ goes (want_cond K A B [] nothing_cond)) where
+    pub guard_over : (f : TextFault) → OverDeep s w V.depth f → ProgRefused atom V s f
+    guard_over f x K A e = x (names_of V) V.end (want K A) (want_cond K A B [] nothing_cond) (opens K A) (omega arith)
+
+    module _ (a : Reader) (W : Level) (g : Deeper V W) (p : Taken s a w) where
+      guard_on : (K : List Frame) (A : Sofar) → length K ≡ V.depth → goes_on V s (want K A) ≡ goes_on W a (want_cond K A B [] nothing_cond)
+      guard_on K A e = p.on (names_of V) V.end (want K A) (want_cond K A B [] nothing_cond) (opens K A) (omega arith) ∙ deeper_on V W g a _
+
+      pub guard_refused : ((K : List Frame) (A : Sofar) (c : Cond) → (U : State) × (advance (names_of W) (have_cond K A B [] nothing_cond c) (mark_word (base_closer B)) ≡ goes U)) →
+          (f : TextFault) → CondUnclosed W a (base_closer B) f → ProgRefused atom V s f
+      guard_refused u f x K A e = refusal f _ _ (guard_on K A e) (x K A B [] refl (omega arith) refl (u K A))
+
+      guard_read : (t : Reader) (c : ℕ) → CondClosed W a t (base_closer B) c → (K : List Frame) (A : Sofar) (U : State) → length K ≡ V.depth →
+          advance (names_of W) (have_cond K A B [] nothing_cond (cond_at t.tree c)) (mark_word (base_closer B)) ≡ goes U → depth U ≤ most_depth →
+          goes_on V s (want K A) ≡ goes_on W t U
+      guard_read t c r K A U e y l = guard_on K A e ∙ r.on K A B [] U refl (omega arith) y l
+
+  pub round_over : (f : TextFault) → OverDeep s open_round V.depth f → ProgRefused atom V s f
+  round_over f x K A e = x (names_of V) V.end (want K A) (want (in_round A ∷ K) nothing) refl (omega arith)
+
+  module _ (a : Reader) (W : Level) (g : Deeper V W) where
+    pub test_read : Taken s a (begins open_square) → (b t : Reader) (c i : ℕ) → CondClosed W a b mark.CloseSquare c → Built b t (test (cond_at b.tree c)) i → ProgRead atom V s t i
+    test_read p b t c i r n =
+        atom_built b t (test (cond_at b.tree c)) i (omega (arith, p.fewer, r.fewer))
+        (grows_trans s.tree a.tree b.tree (grows_same s.tree a.tree p.tree) r.grows)
         (λ K A e.
-        p.on N len (want K A) (have K A golog.nil) (ap (advance N (want K A)) is) (deep_have K A golog.nil e)
-        ∙ (unmoved_going a b q.unmoved N len _ ∙ ap (λ z. going N len b (have K A (test z))) (sym q.is))) r
+        guard_read (begins open_square) of_test (λ L C. refl) a W g p b c r K A (have K A (test (cond_at b.tree c))) e refl (deep_have K A (test (cond_at b.tree c)) e)
+        ∙ sym (deeper_on V W g b _)) n
 
-  pub test_refused : (f : TextFault) → GuardRefused N len d s (begins open_square) mark.CloseSquare f → ProgRefused atom N len d s f
-  test_refused f x K A e = x K A of_test e refl refl (λ c. (have K A (test c), refl))
+    module _ (p : Taken s a open_round) where
+      round_on : (K : List Frame) (A : Sofar) → length K ≡ V.depth → goes_on V s (want K A) ≡ goes_on W a (want (in_round A ∷ K) nothing)
+      round_on K A e = p.on (names_of V) V.end (want K A) (want (in_round A ∷ K) nothing) refl (omega arith) ∙ deeper_on V W g a _
 
-  pub test_read : (a t : Reader) (c i : ℕ) → GuardRead N len d s a (begins open_square) mark.CloseSquare c → Built a t (test (cond_at a.tree c)) i → ProgRead atom N len d s t i
-  test_read a t c i g b =
-      atom_built a t (test (cond_at a.tree c)) i g.fewer g.grows
-      (λ K A e. g.on K A of_test (have K A (test (cond_at a.tree c))) e refl refl (deep_have K A (test (cond_at a.tree c)) e)) b
+      pub round_refused : (f : TextFault) → InsideRefused W a mark.Close f → ProgRefused atom V s f
+      round_refused f x K A e = refusal f _ _ (round_on K A e) (x (in_round A) K (omega arith) refl (λ q. (have K A q, refl)))
 
-  pub round_over : (f : TextFault) → OverDeep s open_round d f → ProgRefused atom N len d s f
-  round_over f x K A e = x N len (want K A) (want (in_round A ∷ K) nothing) refl (omega arith)
+      pub round_read : (t : Reader) (i : ℕ) → InsideRead W a t mark.Close i → ProgRead atom V s t i
+      round_read t i r = record {
+        fewer = omega (arith, p.fewer, r.fewer);
+        stops = tt;
+        grows = grows_trans s.tree a.tree t.tree (grows_same s.tree a.tree p.tree) r.grows;
+        there = r.there;
+        on = λ K A e.
+            round_on K A e
+            ∙ (r.on (in_round A) K (have K A (prog_at t.tree i)) (omega arith) refl (deep_have K A (prog_at t.tree i) e) ∙ sym (deeper_on V W g t _));
+      }
 
-  module _ (a : Reader) (e : ℕ) (g : e ≡ d + 1) (l : e ≤ most_depth) (p : Taken s a open_round) where
-    round_on : (K : List Frame) (A : Sofar) → length K ≡ d → going N len s (want K A) ≡ going N len a (want (in_round A ∷ K) nothing)
-    round_on K A x = p.on N len (want K A) (want (in_round A ∷ K) nothing) refl (omega arith)
+    module _ (p : Taken s a (begins if_word)) (b : Reader) (c : ℕ) (r : CondClosed W a b mark.Then c) where
+      if_on : (K : List Frame) (A : Sofar) → length K ≡ V.depth → goes_on V s (want K A) ≡ goes_on W b (want (in_then A (cond_at b.tree c) ∷ K) nothing)
+      if_on K A e = guard_read (begins if_word) of_if (λ L C. refl) a W g p b c r K A (want (in_then A (cond_at b.tree c) ∷ K) nothing) e refl (omega arith)
 
-    pub round_refused : (f : TextFault) → InsideRefused N len e a mark.Close f → ProgRefused atom N len d s f
-    round_refused f x K A y = refusal f _ _ (round_on K A y) (x (in_round A) K (omega arith) refl (λ q. (have K A q, refl)))
+      pub then_refused : (f : TextFault) → InsideRefused W b mark.Else f → ProgRefused atom V s f
+      then_refused f x K A e =
+          refusal f _ _ (if_on K A e) (x (in_then A (cond_at b.tree c)) K (omega arith) refl (λ q. (want (in_else A (cond_at b.tree c) q ∷ K) nothing, refl)))
 
-    pub round_read : (t : Reader) (i : ℕ) → InsideRead N len e a t mark.Close i → ProgRead atom N len d s t i
-    round_read t i r = record {
-      fewer = omega (arith, p.fewer, r.fewer);
-      stops = tt;
-      grows = grows_trans s.tree a.tree t.tree (grows_same s.tree a.tree p.tree) r.grows;
-      there = r.there;
-      on = λ K A y. round_on K A y ∙ r.on (in_round A) K (have K A (prog_at t.tree i)) (omega arith) refl (deep_have K A (prog_at t.tree i) y);
-    }
+      module _ (d : Reader) (q : ℕ) (y : InsideRead W b d mark.Else q) where
+        then_on : (K : List Frame) (A : Sofar) → length K ≡ V.depth →
+            goes_on V s (want K A) ≡ goes_on W d (want (in_else A (cond_at b.tree c) (prog_at d.tree q) ∷ K) nothing)
+        then_on K A e =
+            if_on K A e
+            ∙ y.on (in_then A (cond_at b.tree c)) K (want (in_else A (cond_at b.tree c) (prog_at d.tree q) ∷ K) nothing) (omega arith) refl (omega arith)
 
-  pub if_refused : (f : TextFault) → GuardRefused N len d s (begins if_word) mark.Then f → ProgRefused atom N len d s f
-  if_refused f x K A e = x K A of_if e refl refl (λ c. (want (in_then A c ∷ K) nothing, refl))
+        pub else_refused : (f : TextFault) → InsideRefused W d mark.Fi f → ProgRefused atom V s f
+        else_refused f x K A e =
+            refusal f _ _ (then_on K A e)
+            (x (in_else A (cond_at b.tree c) (prog_at d.tree q)) K (omega arith) refl (λ z. (have K A (if_then_else (cond_at b.tree c) (prog_at d.tree q) z), refl)))
 
-  module _ (a : Reader) (c : ℕ) (g : GuardRead N len d s a (begins if_word) mark.Then c) where
-    if_on : (K : List Frame) (A : Sofar) → length K ≡ d → going N len s (want K A) ≡ going N len a (want (in_then A (cond_at a.tree c) ∷ K) nothing)
-    if_on K A e = g.on K A of_if (want (in_then A (cond_at a.tree c) ∷ K) nothing) e refl refl (omega (arith, g.deep))
+        module _ (k : Reader) (z : ℕ) (u : InsideRead W d k mark.Fi z) where
+          pub if_cond_there : c < length (clauses k.tree)
+          if_cond_there = cond_there b.tree k.tree (grows_trans b.tree d.tree k.tree y.grows u.grows) c r.there
 
-    pub then_refused : (f : TextFault) → InsideRefused N len (d + 1) a mark.Else f → ProgRefused atom N len d s f
-    then_refused f x K A e = refusal f _ _ (if_on K A e) (x (in_then A (cond_at a.tree c)) K (omega arith) refl (λ q. (want (in_else A (cond_at a.tree c) q ∷ K) nothing, refl)))
+          pub if_then_there : q < length (nodes k.tree)
+          if_then_there = prog_there d.tree k.tree u.grows q y.there
 
-    module _ (b : Reader) (p : ℕ) (r : InsideRead N len (d + 1) a b mark.Else p) where
-      then_on : (K : List Frame) (A : Sofar) → length K ≡ d →
-          going N len s (want K A) ≡ going N len b (want (in_else A (cond_at a.tree c) (prog_at b.tree p) ∷ K) nothing)
-      then_on K A e =
-          if_on K A e
-          ∙ r.on (in_then A (cond_at a.tree c)) K (want (in_else A (cond_at a.tree c) (prog_at b.tree p) ∷ K) nothing) (omega arith) refl (omega (arith, g.deep))
+          pub if_read : (t : Reader) (i : ℕ) → Built k t (if_then_else (cond_at k.tree c) (prog_at k.tree q) (prog_at k.tree z)) i → ProgRead atom V s t i
+          if_read t i m =
+              let more = grows_trans b.tree d.tree k.tree y.grows u.grows in
+              atom_built k t (if_then_else (cond_at k.tree c) (prog_at k.tree q) (prog_at k.tree z)) i (omega (arith, p.fewer, r.fewer, y.fewer, u.fewer))
+              (grows_trans s.tree a.tree k.tree (grows_same s.tree a.tree p.tree) (grows_trans a.tree b.tree k.tree r.grows more))
+              (λ K A e.
+              let all = if_then_else (cond_at b.tree c) (prog_at d.tree q) (prog_at k.tree z) in
+              then_on K A e
+              ∙ (u.on (in_else A (cond_at b.tree c) (prog_at d.tree q)) K (have K A all) (omega arith) refl (deep_have K A all e)
+              ∙ (sym (deeper_on V W g k _)
+              ∙ ap₂ (λ x y. goes_on V k (have K A (if_then_else x y (prog_at k.tree z)))) (sym (cond_stays b.tree k.tree more c r.there)) (sym (prog_stays d.tree k.tree u.grows q y.there))))) m
 
-      pub else_refused : (f : TextFault) → InsideRefused N len (d + 1) b mark.Fi f → ProgRefused atom N len d s f
-      else_refused f x K A e =
-          refusal f _ _ (then_on K A e)
-          (x (in_else A (cond_at a.tree c) (prog_at b.tree p)) K (omega arith) refl (λ q. (have K A (if_then_else (cond_at a.tree c) (prog_at b.tree p) q), refl)))
+    module _ (p : Taken s a (begins while_word)) (b : Reader) (c : ℕ) (r : CondClosed W a b mark.Do c) where
+      while_on : (K : List Frame) (A : Sofar) → length K ≡ V.depth → goes_on V s (want K A) ≡ goes_on W b (want (in_do A (cond_at b.tree c) ∷ K) nothing)
+      while_on K A e = guard_read (begins while_word) of_while (λ L C. refl) a W g p b c r K A (want (in_do A (cond_at b.tree c) ∷ K) nothing) e refl (omega arith)
 
-      module _ (k : Reader) (q : ℕ) (u : InsideRead N len (d + 1) b k mark.Fi q) where
-        pub if_cond_there : c < length (clauses k.tree)
-        if_cond_there = cond_there a.tree k.tree (grows_trans a.tree b.tree k.tree r.grows u.grows) c g.there
+      pub do_refused : (f : TextFault) → InsideRefused W b mark.Od f → ProgRefused atom V s f
+      do_refused f x K A e =
+          refusal f _ _ (while_on K A e) (x (in_do A (cond_at b.tree c)) K (omega arith) refl (λ q. (have K A (while_do (cond_at b.tree c) q), refl)))
 
-        pub if_then_there : p < length (nodes k.tree)
-        if_then_there = prog_there b.tree k.tree u.grows p r.there
+      module _ (d : Reader) (q : ℕ) (y : InsideRead W b d mark.Od q) where
+        pub while_cond_there : c < length (clauses d.tree)
+        while_cond_there = cond_there b.tree d.tree y.grows c r.there
 
-        pub if_read : (t : Reader) (i : ℕ) → Built k t (if_then_else (cond_at k.tree c) (prog_at k.tree p) (prog_at k.tree q)) i → ProgRead atom N len d s t i
-        if_read t i m =
-            let more = grows_trans a.tree b.tree k.tree r.grows u.grows in
-            atom_built k t (if_then_else (cond_at k.tree c) (prog_at k.tree p) (prog_at k.tree q)) i (omega (arith, g.fewer, r.fewer, u.fewer))
-            (grows_trans s.tree a.tree k.tree g.grows more)
+        pub while_read : (t : Reader) (i : ℕ) → Built d t (while_do (cond_at d.tree c) (prog_at d.tree q)) i → ProgRead atom V s t i
+        while_read t i m =
+            atom_built d t (while_do (cond_at d.tree c) (prog_at d.tree q)) i (omega (arith, p.fewer, r.fewer, y.fewer))
+            (grows_trans s.tree a.tree d.tree (grows_same s.tree a.tree p.tree) (grows_trans a.tree b.tree d.tree r.grows y.grows))
             (λ K A e.
-            let all = if_then_else (cond_at a.tree c) (prog_at b.tree p) (prog_at k.tree q) in
-            then_on K A e
-            ∙ (u.on (in_else A (cond_at a.tree c) (prog_at b.tree p)) K (have K A all) (omega arith) refl (deep_have K A all e)
-            ∙ ap₂ (λ x y. going N len k (have K A (if_then_else x y (prog_at k.tree q)))) (sym (cond_stays a.tree k.tree more c g.there)) (sym (prog_stays b.tree k.tree u.grows p r.there)))) m
-
-  pub while_refused : (f : TextFault) → GuardRefused N len d s (begins while_word) mark.Do f → ProgRefused atom N len d s f
-  while_refused f x K A e = x K A of_while e refl refl (λ c. (want (in_do A c ∷ K) nothing, refl))
-
-  module _ (a : Reader) (c : ℕ) (g : GuardRead N len d s a (begins while_word) mark.Do c) where
-    while_on : (K : List Frame) (A : Sofar) → length K ≡ d → going N len s (want K A) ≡ going N len a (want (in_do A (cond_at a.tree c) ∷ K) nothing)
-    while_on K A e = g.on K A of_while (want (in_do A (cond_at a.tree c) ∷ K) nothing) e refl refl (omega (arith, g.deep))
-
-    pub do_refused : (f : TextFault) → InsideRefused N len (d + 1) a mark.Od f → ProgRefused atom N len d s f
-    do_refused f x K A e = refusal f _ _ (while_on K A e) (x (in_do A (cond_at a.tree c)) K (omega arith) refl (λ q. (have K A (while_do (cond_at a.tree c) q), refl)))
-
-    module _ (b : Reader) (p : ℕ) (r : InsideRead N len (d + 1) a b mark.Od p) where
-      pub while_cond_there : c < length (clauses b.tree)
-      while_cond_there = cond_there a.tree b.tree r.grows c g.there
-
-      pub while_read : (t : Reader) (i : ℕ) → Built b t (while_do (cond_at b.tree c) (prog_at b.tree p)) i → ProgRead atom N len d s t i
-      while_read t i m =
-          atom_built b t (while_do (cond_at b.tree c) (prog_at b.tree p)) i (omega (arith, g.fewer, r.fewer)) (grows_trans s.tree a.tree b.tree g.grows r.grows)
-          (λ K A e.
-          let all = while_do (cond_at a.tree c) (prog_at b.tree p) in
-          while_on K A e
-          ∙ (r.on (in_do A (cond_at a.tree c)) K (have K A all) (omega arith) refl (deep_have K A all e)
-          ∙ ap (λ x. going N len b (have K A (while_do x (prog_at b.tree p)))) (sym (cond_stays a.tree b.tree r.grows c g.there)))) m
+            let all = while_do (cond_at b.tree c) (prog_at d.tree q) in
+            while_on K A e
+            ∙ (y.on (in_do A (cond_at b.tree c)) K (have K A all) (omega arith) refl (deep_have K A all e)
+            ∙ (sym (deeper_on V W g d _) ∙ ap (λ x. goes_on V d (have K A (while_do x (prog_at d.tree q)))) (sym (cond_stays b.tree d.tree y.grows c r.there))))) m

@@ -2,6 +2,9 @@
 use Rattle.std.proofs.Common.{◌≡◌, ℕ, suc, ◌+◌, ◌<◌, ◌≤◌, Bool, true, false, leb, List, [], ◌∷◌, length, Some, None, sym, refl, ap, ◌∙◌, subst, ap₂, inl, inr, add-one, arith}
 use mathlib.Core.Option.{Option, none, some}
 use Rattle.std.proofs.lemmas.Bool.{true≢false, le-leb, lt-leb, and_from, and_left, and_right}
+use Rattle.std.specs.Prelude.{Result, MatchResult}
+use Rattle.std.specs.Result.{IsErrAnd}
+use Rattle.std.proofs.lemmas.Result.{err_from_is_err_and}
 use Rattle.golog.specs.Words as golog
 use Rattle.golog.specs.Grammar.{Names}
 use Rattle.golog.specs.Reading.{State, Reading, advance, depth, in_limits, after_word, finish, read_on, most_words, most_act_words, most_depth}
@@ -10,12 +13,13 @@ use Rattle.golog.specs.Reading.Reading.{refused}
 use Rattle.golog.specs.Reading.TextFault.{misplaced, unknown, over_limit}
 use Rattle.text.specs.declared.word.Token.{Token}
 use Rattle.text.specs.declared.word.Mark.{Mark}
+use Rattle.text.specs.declared.reader.Level.{Level}
 use Rattle.text.specs.declared.reader.Reader.{Reader}
 use Rattle.text.specs.Said.{said, mark_word}
 use Rattle.text.specs.declared.fault.TextFault.{TextFault}
 use Rattle.text.specs.declared.fault.TextFault.TheVariants.{Memory}
 use Rattle.text.specs.Faults.{Tells}
-use Rattle.text.specs.Rest.{rest_from, rest, going, mark_of, next_mark}
+use Rattle.text.specs.Rest.{rest_from, rest, going, goes_on, Deeper, mark_of, next_mark}
 use Rattle.text.specs.Built.{Nameless}
 use Rattle.text.specs.Steps.{Passed, Taken, Takes, Unfit}
 
@@ -123,6 +127,14 @@ alike s N len S U e h = by (rest s) h
         read_on N len ts s.taken s.acts S ≡ read_on N len ts s.taken s.acts U
     by [] h = e
     by (t ∷ ts) h = ap (after_word t.offset s.taken s.acts (read_on N len ts)) (h t.word refl)
+
+-- reading goes on alike one level deeper
+pub deeper_on : (V W : Level) → Deeper V W → (s : Reader) (S : State) → goes_on V s S ≡ goes_on W s S
+deeper_on V W g s S = ap₂ (λ N len. going N len s S) (sym g.names) (sym g.end)
+
+-- a `?` hands on what a call refused
+pub hands_on : {T E : Type 0} (r : Result T E) (P : T → Type 0) (Q : E → Type 0) (e : E) → IsErrAnd r (λ f. f ≡ e) → Q e → MatchResult r P Q
+hands_on r P Q e h q = let p = err_from_is_err_and r h in rw (p.1, p.2) q
 
 pub refusal : (f : TextFault) (x y : Reading) → x ≡ y → Tells f y → Tells f x
 refusal f x y e h = subst (Tells f) (sym e) h

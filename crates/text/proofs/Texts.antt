@@ -1,5 +1,5 @@
 -- Reading a whole text.
-use Rattle.std.proofs.Common.{◌≡◌, ℕ, ◌≤◌, true, List, [], length, Some, None, Option, sym, refl, ap, ◌∙◌, subst, ap₂}
+use Rattle.std.proofs.Common.{◌≡◌, ℕ, ◌≤◌, true, List, [], length, Some, None, Option, sym, ap, ◌∙◌, subst, ap₂}
 use Rattle.std.specs.Iterator.{YieldsFirstBy}
 use Rattle.golog.specs.Programs.{Prog, names_below, acts_below}
 use Rattle.golog.specs.Points.{words}
@@ -14,10 +14,11 @@ use Rattle.tree.specs.Held.{prog_at}
 use Rattle.text.specs.declared.word.Token.{Token}
 use Rattle.text.specs.declared.lexer.Words.{Words}
 use Rattle.text.specs.declared.fault.TextFault.{TextFault}
+use Rattle.text.specs.declared.reader.Level.{Level}
 use Rattle.text.specs.declared.reader.Reader.{Reader}
 use Rattle.text.specs.Faults.{Tells}
 use Rattle.text.specs.Left.{said_token, left}
-use Rattle.text.specs.Rest.{rest_from, rest, going}
+use Rattle.text.specs.Rest.{rest_from, rest, going, names_of, goes_on}
 use Rattle.text.specs.Steps.{Unplaced}
 use Rattle.text.specs.Progs.{ProgRead, ProgRefused}
 use Rattle.text.proofs.Stepping.{refusal}
@@ -37,18 +38,18 @@ pub reading_ends : (N : Names) (len : ℕ) (r : Reader) (p : Prog) → r.ahead �
 unfolding going
 reading_ends N len r p e = ap (λ a. read_on N len (rest_from a r.words) r.taken r.acts (have [] nothing p)) e
 
-module _ (N : Names) (text : List ℕ) (s : Reader) (e : read N text ≡ going N (length text) s (want [] nothing)) where
-  pub whole_refused : (f : TextFault) → ProgRefused choice N (length text) 0 s f → Tells f (read N text)
-  whole_refused f x = refusal f _ _ e (x [] nothing refl)
+module _ (V : Level) (text : List ℕ) (s : Reader) (z : V.depth ≡ 0) (e : read (names_of V) text ≡ goes_on V s (want [] nothing)) where
+  pub whole_refused : (f : TextFault) → ProgRefused choice V s f → Tells f (read (names_of V) text)
+  whole_refused f x = refusal f _ _ e (x [] nothing (sym z))
 
-  module _ (t : Reader) (i : ℕ) (r : ProgRead choice N (length text) 0 s t i) where
-    pub whole_read : t.ahead ≡ None → read N text ≡ tree (prog_at t.tree i)
-    whole_read h = e ∙ (r.on [] nothing refl ∙ reading_ends N (length text) t (prog_at t.tree i) h)
+  module _ (t : Reader) (i : ℕ) (r : ProgRead choice V s t i) where
+    pub whole_read : t.ahead ≡ None → read (names_of V) text ≡ tree (prog_at t.tree i)
+    whole_read h = e ∙ (r.on [] nothing (sym z) ∙ reading_ends (names_of V) V.end t (prog_at t.tree i) h)
 
-    pub whole_unplaced : (x : Token) → t.ahead ≡ Some x → (f : TextFault) → Unplaced t (length text) f → Tells f (read N text)
+    pub whole_unplaced : (x : Token) → t.ahead ≡ Some x → (f : TextFault) → Unplaced t V.end f → Tells f (read (names_of V) text)
     whole_unplaced x h f u =
-        refusal f _ _ (e ∙ r.on [] nothing refl)
-        (u N (have [] nothing (prog_at t.tree i)) (whole_unfit N (prog_at t.tree i) (rest t) (said_token x) (left t.words) (length text) (ap (λ a. rest_from a t.words) h) r.stops))
+        refusal f _ _ (e ∙ r.on [] nothing (sym z))
+        (u (names_of V) (have [] nothing (prog_at t.tree i)) (whole_unfit (names_of V) (prog_at t.tree i) (rest t) (said_token x) (left t.words) V.end (ap (λ a. rest_from a t.words) h) r.stops))
 
 -- what was read keeps to the counts and the limit
 pub read_bounds : (N : Names) (text : List ℕ) (p : Prog) (facts acts : ℕ) → facts ≡ length N.facts → acts ≡ length N.acts → read N text ≡ tree p →

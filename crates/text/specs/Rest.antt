@@ -1,5 +1,5 @@
 -- Where the reading of a text stands.
-use Rattle.std.specs.Prelude.{ℕ, List, [], ◌∷◌, Some, None, Option}
+use Rattle.std.specs.Prelude.{◌≡◌, ℕ, ◌+◌, List, [], ◌∷◌, Some, None, Option}
 use Rattle.std.proofs.Math.Option as logic
 use Rattle.std.proofs.Math.Option.{none, some}
 use Rattle.words.specs.declared.names.Names as listed
@@ -14,7 +14,7 @@ use Rattle.text.specs.declared.word.Token.{Token}
 use Rattle.text.specs.declared.word.Mark.{Mark}
 use Rattle.text.specs.declared.word.Mark.TheVariants.{Close, CloseSquare, Semicolon, Bar, Star, Then, Else, Fi, Do, Od, And, Or}
 use Rattle.text.specs.declared.lexer.Words.{Words}
-use Rattle.text.specs.declared.reader.Known.{Known}
+use Rattle.text.specs.declared.reader.Level.{Level}
 use Rattle.text.specs.declared.reader.Reader.{Reader}
 use Rattle.text.specs.Left.{said_token, left}
 
@@ -33,8 +33,18 @@ going N len r S = read_on N len (rest r) r.taken r.acts S
 abbrev pub both_names : listed.Names → listed.Names → Names
 both_names facts acts = record { facts = name_list facts; acts = name_list acts }
 
-abbrev pub names_of : Known → Names
-names_of k = both_names k.facts.now k.acts.now
+abbrev pub names_of : Level → Names
+names_of v = both_names v.facts.now v.acts.now
+
+-- how the reading goes on at a level
+abbrev pub goes_on : Level → Reader → State → Reading
+goes_on v r S = going (names_of v) v.end r S
+
+-- one level deeper
+pub record Deeper (v w : Level) : Type 0 where
+  pub names : names_of w ≡ names_of v
+  pub end : w.end ≡ v.end
+  pub depth : w.depth ≡ v.depth + 1
 
 -- which mark a word is, and which is next
 abbrev pub mark_of : golog.Word → logic.Option Mark

@@ -1,4 +1,5 @@
 ghost use Rattle.std.specs.Prelude.{◌≤◌};
+ghost use Rattle.golog.specs.Reading.{most_act_words, most_depth};
 
 use crate::lexer::Words;
 use crate::word::Token;
@@ -11,12 +12,14 @@ mod programs;
 mod stepping;
 pub mod whole;
 
-// What a text may name, and the offset at which words are missing.
+// How a part of a text stands: what it may name, the offset at which words are missing, and how many parts are open round it.
 #[derive(Clone, Copy)]
-struct Known<'a> {
+struct Level<'a> {
     facts: &'a Names,
     acts: &'a Names,
     end: usize,
+    depth: usize,
+    ghost shallow: { depth ≤ most_depth },
 }
 
 // A text that is being read: the words behind the word ahead, how many words and act words were taken, and what they gave.
@@ -27,5 +30,5 @@ struct Reader<'a> {
     taken: usize,
     acts: usize,
     tree: Tree,
-    ghost few: { acts ≤ 63 },
+    ghost few: { acts ≤ most_act_words },
 }

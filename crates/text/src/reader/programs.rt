@@ -1,14 +1,11 @@
-ghost use Rattle.std.specs.Prelude.{◌≡◌, ◌≤◌, Some, MatchResult};
+ghost use Rattle.std.specs.Prelude.{◌≡◌, Some, MatchResult};
 ghost use Rattle.golog.specs.Grammar.Sort.{choice, sequence, item, atom};
-ghost use Rattle.golog.specs.Words.Word.{name as spelt, begins};
-ghost use Rattle.golog.specs.Words.Begin.{nil_word};
-ghost use Rattle.golog.specs.Reading.{most_depth};
+ghost use Rattle.golog.specs.Words.Word.{name as spelt};
 ghost use Rattle.text.specs.Said.{said};
-ghost use Rattle.text.specs.Rest.{names_of};
-ghost use Rattle.text.specs.Progs.{ProgRead, ProgRefused, GuardRead, GuardRefused, InsideRead, InsideRefused};
+ghost use Rattle.text.specs.Progs.{ProgRead, ProgRefused, InsideRead, InsideRefused};
 
 use super::growing::number;
-use super::{Known, Reader};
+use super::{Level, Reader};
 use crate::fault::TextFault;
 use crate::word::{Mark, Token, Word};
 use tree::node::{Clause, Node};
@@ -16,13 +13,12 @@ use tree::node::{Clause, Node};
 impl<'a> Reader<'a> {
     // Sequences parted by |.
     #[cycle(atom_choice_inside_item_sequence)]
-    pub(super) fn choice(&mut self, known: Known<'_>, depth: usize) -> Result<u16, TextFault>
-        requires { depth ≤ most_depth }
-        ensures { MatchResult result (λ i. ProgRead choice (names_of known.entry) known.entry.end depth self.old self.new i) (λ f. ProgRefused choice (names_of known.entry) known.entry.end depth self.old f) }
+    pub(super) fn choice(&mut self, level: Level<'_>) -> Result<u16, TextFault>
+        ensures { MatchResult result (λ i. ProgRead choice level.entry self.old self.new i) (λ f. ProgRefused choice level.entry self.old f) }
     {
-        let mut left = self.sequence(known, depth)?;
+        let mut left = self.sequence(level)?;
         while self.takes(Mark::Bar)? {
-            let right = self.sequence(known, depth)?;
+            let right = self.sequence(level)?;
             left = self.node(Node::Alt(left, right))?;
         }
         Ok(left)
@@ -30,13 +26,12 @@ impl<'a> Reader<'a> {
 
     // Items parted by ;.
     #[cycle(atom_choice_inside_item_sequence)]
-    fn sequence(&mut self, known: Known<'_>, depth: usize) -> Result<u16, TextFault>
-        requires { depth ≤ most_depth }
-        ensures { MatchResult result (λ i. ProgRead sequence (names_of known.entry) known.entry.end depth self.old self.new i) (λ f. ProgRefused sequence (names_of known.entry) known.entry.end depth self.old f) }
+    fn sequence(&mut self, level: Level<'_>) -> Result<u16, TextFault>
+        ensures { MatchResult result (λ i. ProgRead sequence level.entry self.old self.new i) (λ f. ProgRefused sequence level.entry self.old f) }
     {
-        let mut left = self.item(known, depth)?;
+        let mut left = self.item(level)?;
         while self.takes(Mark::Semicolon)? {
-            let right = self.item(known, depth)?;
+            let right = self.item(level)?;
             left = self.node(Node::Seq(left, right))?;
         }
         Ok(left)
@@ -44,11 +39,10 @@ impl<'a> Reader<'a> {
 
     // An atom with any number of * behind it.
     #[cycle(atom_choice_inside_item_sequence)]
-    fn item(&mut self, known: Known<'_>, depth: usize) -> Result<u16, TextFault>
-        requires { depth ≤ most_depth }
-        ensures { MatchResult result (λ i. ProgRead item (names_of known.entry) known.entry.end depth self.old self.new i) (λ f. ProgRefused item (names_of known.entry) known.entry.end depth self.old f) }
+    fn item(&mut self, level: Level<'_>) -> Result<u16, TextFault>
+        ensures { MatchResult result (λ i. ProgRead item level.entry self.old self.new i) (λ f. ProgRefused item level.entry self.old f) }
     {
-        let mut part = self.atom(known, depth)?;
+        let mut part = self.atom(level)?;
         while self.takes(Mark::Star)? {
             part = self.node(Node::Star(part))?;
         }
@@ -57,100 +51,62 @@ impl<'a> Reader<'a> {
 
     // An act, a test, nil, a choice in brackets, if or while.
     #[cycle(atom_choice_inside_item_sequence)]
-    fn atom(&mut self, known: Known<'_>, depth: usize) -> Result<u16, TextFault>
-        requires { depth ≤ most_depth }
-        ensures { MatchResult result (λ i. ProgRead atom (names_of known.entry) known.entry.end depth self.old self.new i) (λ f. ProgRefused atom (names_of known.entry) known.entry.end depth self.old f) }
+    fn atom(&mut self, level: Level<'_>) -> Result<u16, TextFault>
+        ensures { MatchResult result (λ i. ProgRead atom level.entry self.old self.new i) (λ f. ProgRefused atom level.entry self.old f) }
     {
         let Some(token) = self.ahead else {
-            return Err(self.misplaced(known.end));
+            return Err(self.misplaced(level.end));
         };
         match token.word {
-            Word::Name(name) => self.act(known, depth, token, name),
-            Word::Nil => self.nil(known, depth, token),
+            Word::Name(name) => self.act(level, token, name),
+            Word::Nil => {
+                let c = self.constant(token, Clause::True)?;
+                self.node(Node::Test(c))
+            }
             Word::OpenSquare => {
-                let c = self.condition(known, depth, token, Mark::CloseSquare)?;
-                let i = self.node(Node::Test(c))?;
-                Ok(i)
+                let inner = self.open(level, token)?;
+                let c = self.condition(inner, Mark::CloseSquare)?;
+                self.node(Node::Test(c))
             }
             Word::Open => {
-                let inner = self.open(token, depth)?;
-                let i = self.inside(known, inner, Mark::Close)?;
-                Ok(i)
+                let inner = self.open(level, token)?;
+                self.inside(inner, Mark::Close)
             }
             Word::If => {
-                let c = self.condition(known, depth, token, Mark::Then)?;
-                let p = self.inside(known, depth + 1, Mark::Else)?;
-                let q = self.inside(known, depth + 1, Mark::Fi)?;
-                let i = self.branch(c, p, q)?;
-                Ok(i)
+                let inner = self.open(level, token)?;
+                let c = self.condition(inner, Mark::Then)?;
+                let p = self.inside(inner, Mark::Else)?;
+                let q = self.inside(inner, Mark::Fi)?;
+                self.branch(c, p, q)
             }
             Word::While => {
-                let c = self.condition(known, depth, token, Mark::Do)?;
-                let p = self.inside(known, depth + 1, Mark::Od)?;
-                let i = self.repeat(c, p)?;
-                Ok(i)
+                let inner = self.open(level, token)?;
+                let c = self.condition(inner, Mark::Do)?;
+                let p = self.inside(inner, Mark::Od)?;
+                self.repeat(c, p)
             }
-            _ => Err(self.misplaced(known.end)),
+            _ => Err(self.misplaced(level.end)),
         }
     }
 
     // A choice, and the mark that closes it.
     #[cycle(atom_choice_inside_item_sequence)]
-    fn inside(&mut self, known: Known<'_>, depth: usize, mark: Mark) -> Result<u16, TextFault>
-        requires { depth ≤ most_depth }
-        ensures { MatchResult result (λ i. InsideRead (names_of known.entry) known.entry.end depth self.old self.new mark i) (λ f. InsideRefused (names_of known.entry) known.entry.end depth self.old mark f) }
+    fn inside(&mut self, level: Level<'_>, mark: Mark) -> Result<u16, TextFault>
+        ensures { MatchResult result (λ i. InsideRead level.entry self.old self.new mark i) (λ f. InsideRefused level.entry self.old mark f) }
     {
-        let part = self.choice(known, depth)?;
-        self.close(mark, known.end)?;
-        Ok(part)
-    }
-
-    // The word ahead, the condition behind it, and the mark that closes that.
-    fn condition(
-        &mut self,
-        known: Known<'_>,
-        depth: usize,
-        token: Token<'a>,
-        mark: Mark,
-    ) -> Result<u16, TextFault>
-        requires { self.old.ahead ≡ Some token }
-        ensures { MatchResult result (λ i. GuardRead (names_of known.entry) known.entry.end depth self.old self.new (said token.entry.word) mark i) (λ f. GuardRefused (names_of known.entry) known.entry.end depth self.old (said token.entry.word) mark f) }
-    {
-        let inner = self.open(token, depth)?;
-        let part = self.disjunction(known, inner)?;
-        self.close(mark, known.end)?;
+        let part = self.choice(level)?;
+        self.close(mark, level.end)?;
         Ok(part)
     }
 
     // An act.
-    fn act(
-        &mut self,
-        known: Known<'_>,
-        depth: usize,
-        token: Token<'a>,
-        name: &[u8],
-    ) -> Result<u16, TextFault>
+    fn act(&mut self, level: Level<'_>, token: Token<'a>, name: &[u8]) -> Result<u16, TextFault>
         requires ahead_value { self.old.ahead ≡ Some token }
         requires word_value { said token.word ≡ spelt name.now }
-        requires depth_le_most_depth { depth ≤ most_depth }
-        ensures { MatchResult result (λ i. ProgRead atom (names_of known.entry) known.entry.end depth self.old self.new i) (λ f. ProgRefused atom (names_of known.entry) known.entry.end depth self.old f) }
+        ensures { MatchResult result (λ i. ProgRead atom level.entry self.old self.new i) (λ f. ProgRefused atom level.entry self.old f) }
     {
-        let act = number(known.acts, name, token.at)?;
+        let act = number(level.acts, name, token.at)?;
         self.take_act(token)?;
-        let i = self.node(Node::Act(act))?;
-        Ok(i)
-    }
-
-    // The program that does nothing.
-    fn nil(&mut self, known: Known<'_>, depth: usize, token: Token<'a>) -> Result<u16, TextFault>
-        requires ahead_value { self.old.ahead ≡ Some token }
-        requires word_value { said token.word ≡ begins nil_word }
-        requires depth_le_most_depth { depth ≤ most_depth }
-        ensures { MatchResult result (λ i. ProgRead atom (names_of known.entry) known.entry.end depth self.old self.new i) (λ f. ProgRefused atom (names_of known.entry) known.entry.end depth self.old f) }
-    {
-        self.take(token)?;
-        let c = self.clause(Clause::True)?;
-        let i = self.node(Node::Test(c))?;
-        Ok(i)
+        self.node(Node::Act(act))
     }
 }

@@ -1,9 +1,10 @@
-ghost use Rattle.std.specs.Prelude.{◌≡◌, ◌+◌, ◌<◌, ◌≤◌, Some, MatchResult};
+ghost use Rattle.std.specs.Prelude.{◌≡◌, ◌+◌, ◌<◌, ◌≤◌, Some, MatchOption, MatchResult};
 ghost use Rattle.golog.specs.Reading.{most_words, most_depth};
 ghost use Rattle.text.specs.Said.{said, mark_word};
+ghost use Rattle.text.specs.Rest.{Deeper};
 ghost use Rattle.text.specs.Steps.{Passed, Taken, TakenAct, OverDone, OverDoneAct, OverDeep, Takes, Unclosed, Unplaced};
 
-use super::Reader;
+use super::{Level, Reader};
 use crate::fault::{TextFault, WordFault};
 use crate::word::{Mark, Token, Word};
 
@@ -12,6 +13,23 @@ const MOST_WORDS: usize = 512;
 const MOST_ACT_WORDS: usize = 63;
 
 const MOST_DEPTH: usize = 32;
+
+impl<'a> Level<'a> {
+    // One level deeper, unless that is too deep.
+    fn deeper(self) -> Option<Level<'a>>
+        ensures { MatchOption result (self.entry.depth ≡ most_depth) (λ v. Deeper self.entry v) }
+    {
+        if self.depth >= MOST_DEPTH {
+            return None;
+        }
+        Some(Level {
+            facts: self.facts,
+            acts: self.acts,
+            end: self.end,
+            depth: self.depth + 1,
+        })
+    }
+}
 
 impl<'a> Reader<'a> {
     // Goes on to the next word.
@@ -53,15 +71,17 @@ impl<'a> Reader<'a> {
     }
 
     // Takes the word ahead, which opens one level more.
-    pub(super) fn open(&mut self, token: Token<'a>, depth: usize) -> Result<usize, TextFault>
+    pub(super) fn open<'n>(
+        &mut self,
+        level: Level<'n>,
+        token: Token<'a>,
+    ) -> Result<Level<'n>, TextFault>
         requires { self.old.ahead ≡ Some token }
-        ensures { MatchResult result (λ d. (d ≡ depth + 1) × (d ≤ most_depth) × Taken self.old self.new (said token.entry.word)) (λ f. OverDeep self.old (said token.entry.word) depth f) }
+        ensures { MatchResult result (λ v. Deeper level.entry v × Taken self.old self.new (said token.entry.word)) (λ f. OverDeep self.old (said token.entry.word) level.entry.depth f) }
     {
-        if depth >= MOST_DEPTH {
-            return Err(TextFault::OverLimit(token.at));
-        }
+        let inner = level.deeper().ok_or(TextFault::OverLimit(token.at))?;
         self.take(token)?;
-        Ok(depth + 1)
+        Ok(inner)
     }
 
     // Takes the word ahead if it is this mark.

@@ -5,7 +5,7 @@ ghost use Rattle.tree.specs.Held.{nodes, prog_at};
 ghost use Rattle.text.specs.Faults.{Tells};
 ghost use Rattle.text.specs.Rest.{both_names};
 
-use super::{Known, Reader};
+use super::{Level, Reader};
 use crate::fault::TextFault;
 use crate::lexer::Words;
 use std::alloc::Global;
@@ -21,10 +21,11 @@ pub(crate) fn read_whole<'a>(
 ) -> Result<(Tree, u16), TextFault>
     ensures { MatchResult result (λ p. (p.1 < length (nodes p.0)) × (read (both_names facts.now acts.now) text.now ≡ a_tree (prog_at p.0 p.1))) (λ f. Tells f (read (both_names facts.now acts.now) text.now)) }
 {
-    let known = Known {
+    let level = Level {
         facts,
         acts,
         end: text.len(),
+        depth: 0,
     };
     let mut words = Words::new(text);
     let ahead = words.next();
@@ -35,9 +36,9 @@ pub(crate) fn read_whole<'a>(
         acts: 0,
         tree: Tree::new(heap),
     };
-    let root = reader.choice(known, 0)?;
+    let root = reader.choice(level)?;
     if let Some(_token) = reader.ahead {
-        return Err(reader.misplaced(known.end));
+        return Err(reader.misplaced(level.end));
     }
     let Reader { tree, .. } = reader;
     Ok((tree, root))

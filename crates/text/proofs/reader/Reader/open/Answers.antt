@@ -1,13 +1,16 @@
-use Rattle.std.proofs.Common.{suc, arith}
-use Rattle.std.proofs.lemmas.Result.{err_from_is_err_and}
-use Rattle.text.proofs.Stepping.{too_deep, stopped}
+use Rattle.std.proofs.Common.{◌≡◌, suc, arith, rules}
+use Rattle.golog.specs.Reading.{most_depth}
+use Rattle.text.specs.declared.fault.TextFault.TheVariants.{OverLimit}
+use Rattle.text.proofs.Stepping.{hands_on, too_deep, stopped}
 use Rattle.text.proofs.reader.Reader.open.Goals as goal
 
-pub returns-then-depth-ge-MOST_DEPTH : goal.returns-then-depth-ge-MOST_DEPTH
-returns-then-depth-ge-MOST_DEPTH c N len S U e d =
-    stopped c.args.self.now c.args.token c.requires N len S U e (too_deep (suc c.args.self.now.taken) c.args.self.now.acts U (omega arith))
+pub returns-in_err-inner : goal.returns-in_err-inner
+returns-in_err-inner c =
+    let deep : c.args.level.depth ≡ most_depth = search rules in
+    let over : c.in_err-inner.field-0.0 ≡ OverLimit c.args.token.at = search rules in
+    hands_on _ _ _ _ c.from_residual.ensures.1
+    (rw over (λ N len S U e d. stopped c.args.self.now c.args.token c.requires N len S U e (too_deep (suc c.args.self.now.taken) c.args.self.now.acts U (omega arith))))
 
 pub returns-in_err-take : goal.returns-in_err-take
 returns-in_err-take c =
-    let p = err_from_is_err_and c.from_residual.result c.from_residual.ensures.1 in
-    rw (p.1, p.2) (λ N len S U e d. c.in_err-take.ensures N len S U e)
+    hands_on _ _ _ _ c.from_residual-in_err-take.ensures.1 (λ N len S U e d. c.in_err-take.ensures N len S U e)
