@@ -21,7 +21,7 @@ use Rattle.text.specs.declared.fault.TextFault.TheVariants.{Memory}
 use Rattle.text.specs.Faults.{Tells}
 use Rattle.text.specs.Rest.{rest_from, rest, going, goes_on, Deeper, mark_of, next_mark}
 use Rattle.text.specs.Built.{Nameless}
-use Rattle.text.specs.Steps.{Passed, Taken, Takes, Unfit}
+use Rattle.text.specs.Steps.{Passed, Full, Taken, OverDone, OverDoneAct, Takes, Unfit}
 
 abbrev by_limit : Bool → ℕ → Reading → Reading
 by_limit b o x = elim b [ true ↦ x | false ↦ refused (over_limit o) ]
@@ -62,21 +62,24 @@ module _ (s t : Reader) (x : Token) (p : Passed s t x) where
   pub passed_fewer : length (rest t) < length (rest s)
   passed_fewer = let e = ap length p.rests in omega (arith, e)
 
-  pub passed_on : s.taken < most_words → (N : Names) (len : ℕ) (S U : State) → advance N S (said x.word) ≡ goes U → depth U ≤ most_depth →
+  passed_on : (N : Names) (len : ℕ) (S U : State) → advance N S (said x.word) ≡ goes U → depth U ≤ most_depth →
       going N len s S ≡ going N len t U
   unfolding going
-  passed_on a N len S U e d =
+  passed_on N len S U e d =
       ap (λ ts. read_on N len ts s.taken s.acts S) p.rests
-      ∙ (on N len x.at (said x.word) (rest t) s.taken s.acts S U e a s.few d
+      ∙ (on N len x.at (said x.word) (rest t) s.taken s.acts S U e p.room s.few d
       ∙ ap₂ (λ m l. read_on N len (rest t) m l U) (sym p.counts) (sym p.acts))
 
+  pub passed_taken : Taken s t (said x.word)
+  passed_taken = record { fewer = passed_fewer; tree = p.tree; on = passed_on }
+
   -- then an act word is counted
-  pub passed_act_on : (u : Reader) → rest u ≡ rest t → u.taken ≡ t.taken → u.acts ≡ t.acts + 1 → s.taken < most_words → s.acts < most_act_words →
+  pub passed_act_on : (u : Reader) → rest u ≡ rest t → u.taken ≡ t.taken → u.acts ≡ t.acts + 1 → s.acts < most_act_words →
       (N : Names) (len : ℕ) (S U : State) → advance N S (said x.word) ≡ goes_by_act U → depth U ≤ most_depth → going N len s S ≡ going N len u U
   unfolding going
-  passed_act_on u r i j a b N len S U e d =
+  passed_act_on u r i j b N len S U e d =
       ap (λ ts. read_on N len ts s.taken s.acts S) p.rests
-      ∙ (on_act N len x.at (said x.word) (rest t) s.taken s.acts S U e a b d
+      ∙ (on_act N len x.at (said x.word) (rest t) s.taken s.acts S U e p.room b d
       ∙ (ap (λ ts. read_on N len ts (s.taken + 1) (s.acts + 1) U) (sym r)
       ∙ ap₂ (λ m l. read_on N len (rest u) m l U) (sym (i ∙ p.counts)) (sym (j ∙ ap (λ l. l + 1) p.acts))))
 
@@ -92,6 +95,15 @@ module _ (s : Reader) (x : Token) (e : s.ahead ≡ Some x) where
   unfolding going
   stopped_act N len S U g l =
       ap (λ a. read_on N len (rest_from a s.words) s.taken s.acts S) e ∙ off_act N len x.at (said x.word) _ s.taken s.acts S U g l
+
+  -- a word that is one too many
+  pub full_over : (f : TextFault) → Full s x f → OverDone s (said x.word) f
+  full_over f h N len S U g =
+      subst (λ f. Tells f (going N len s S)) (sym h.0) (stopped N len S U g (too_many (suc s.taken) s.acts U (omega (arith, h.1))))
+
+  pub full_over_act : (f : TextFault) → Full s x f → OverDoneAct s (said x.word) f
+  full_over_act f h N len S U g =
+      subst (λ f. Tells f (going N len s S)) (sym h.0) (stopped_act N len S U g (too_many (suc s.taken) (suc s.acts) U (omega (arith, h.1))))
 
   pub unfit_word : (N : Names) (len : ℕ) (S : State) → Unfit N len S (rest s) → going N len s S ≡ refused (misplaced x.at)
   unfolding going

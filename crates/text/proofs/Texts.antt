@@ -1,5 +1,5 @@
 -- Reading a whole text.
-use Rattle.std.proofs.Common.{◌≡◌, ℕ, ◌≤◌, true, List, [], length, Some, None, Option, sym, ap, ◌∙◌, subst, ap₂}
+use Rattle.std.proofs.Common.{◌≡◌, ℕ, ◌≤◌, true, List, [], length, Some, None, Option, is_some, true≢false, refl, sym, ap, ◌∙◌, subst, ap₂}
 use Rattle.std.specs.Iterator.{YieldsFirstBy}
 use Rattle.golog.specs.Programs.{Prog, names_below, acts_below}
 use Rattle.golog.specs.Points.{words}
@@ -19,7 +19,7 @@ use Rattle.text.specs.declared.reader.Reader.{Reader}
 use Rattle.text.specs.Faults.{Tells}
 use Rattle.text.specs.Left.{said_token, left}
 use Rattle.text.specs.Rest.{rest_from, rest, going, names_of, goes_on}
-use Rattle.text.specs.Steps.{Unplaced}
+use Rattle.text.specs.Steps.{Unfit, Unplaced}
 use Rattle.text.specs.Progs.{ProgRead, ProgRefused}
 use Rattle.text.proofs.Stepping.{refusal}
 use Rattle.text.proofs.Programs.{whole_unfit}
@@ -46,10 +46,13 @@ module _ (V : Level) (text : List ℕ) (s : Reader) (z : V.depth ≡ 0) (e : rea
     pub whole_read : t.ahead ≡ None → read (names_of V) text ≡ tree (prog_at t.tree i)
     whole_read h = e ∙ (r.on [] nothing (sym z) ∙ reading_ends (names_of V) V.end t (prog_at t.tree i) h)
 
-    pub whole_unplaced : (x : Token) → t.ahead ≡ Some x → (f : TextFault) → Unplaced t V.end f → Tells f (read (names_of V) text)
-    whole_unplaced x h f u =
-        refusal f _ _ (e ∙ r.on [] nothing (sym z))
-        (u (names_of V) (have [] nothing (prog_at t.tree i)) (whole_unfit (names_of V) (prog_at t.tree i) (rest t) (said_token x) (left t.words) V.end (ap (λ a. rest_from a t.words) h) r.stops))
+    pub whole_unplaced : is_some t.ahead ≡ true → (f : TextFault) → Unplaced t V.end f → Tells f (read (names_of V) text)
+    whole_unplaced h f u =
+        refusal f _ _ (e ∙ r.on [] nothing (sym z)) (u (names_of V) (have [] nothing (prog_at t.tree i)) (behind_all t.ahead t.words refl h))
+      where
+        behind_all : (o : Option Token) (ws : Words) → rest t ≡ rest_from o ws → is_some o ≡ true → Unfit (names_of V) V.end (have [] nothing (prog_at t.tree i)) (rest t)
+        behind_all None ws k h = absurd (true≢false (sym h))
+        behind_all (Some x) ws k h = whole_unfit (names_of V) (prog_at t.tree i) (rest t) (said_token x) (left ws) V.end k r.stops
 
 -- what was read keeps to the counts and the limit
 pub read_bounds : (N : Names) (text : List ℕ) (p : Prog) (facts acts : ℕ) → facts ≡ length N.facts → acts ≡ length N.acts → read N text ≡ tree p →

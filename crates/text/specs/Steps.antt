@@ -3,24 +3,31 @@ use Rattle.std.specs.Prelude.{◌≡◌, ℕ, ◌+◌, ◌<◌, ◌≤◌, Bool,
 use Rattle.std.proofs.Math.Option.{some}
 use Rattle.golog.specs.Words as golog
 use Rattle.golog.specs.Grammar.{Names}
-use Rattle.golog.specs.Reading.{State, advance, depth, finish, most_depth}
+use Rattle.golog.specs.Reading.{State, advance, depth, finish, most_words, most_depth}
 use Rattle.golog.specs.Reading.Advance.{goes, goes_by_act, misfit}
 use Rattle.golog.specs.Reading.Reading.{refused}
 use Rattle.golog.specs.Reading.TextFault.{misplaced}
 use Rattle.text.specs.declared.word.Token.{Token}
 use Rattle.text.specs.declared.word.Mark.{Mark}
 use Rattle.text.specs.declared.fault.TextFault.{TextFault}
+use Rattle.text.specs.declared.fault.TextFault.TheVariants.{OverLimit}
 use Rattle.text.specs.declared.reader.Reader.{Reader}
 use Rattle.text.specs.Said.{mark_word}
 use Rattle.text.specs.Faults.{Tells}
 use Rattle.text.specs.Left.{said_token}
 use Rattle.text.specs.Rest.{rest, going, next_mark}
 
+-- a word was taken, and is counted
 pub record Passed (s t : Reader) (x : Token) : Type 0 where
+  pub room : s.taken < most_words
   pub rests : rest s ≡ said_token x ∷ rest t
   pub counts : t.taken ≡ s.taken + 1
   pub acts : t.acts ≡ s.acts
   pub tree : t.tree ≡ s.tree
+
+-- a word is one too many
+abbrev pub Full : Reader → Token → TextFault → Type 0
+Full s x f = (f ≡ OverLimit x.at) × (most_words ≤ s.taken)
 
 -- the reading goes on behind a word
 pub record Taken (s t : Reader) (w : golog.Word) : Type 0 where

@@ -26,6 +26,7 @@ struct Level<'a> {
 #[derive(Drop)]
 struct Reader<'a> {
     words: Words<'a>,
+    // Beside the words, and not a Peekable of them: a peek changes the reader, and a look at this word leaves it as it is.
     ahead: Option<Token<'a>>,
     taken: usize,
     acts: usize,

@@ -16,7 +16,7 @@ pub enum Mark {
 }
 
 // A word of a text. A name is the very part of the text that holds it.
-#[derive(Clone, Copy)]
+#[derive(Clone, Copy, PartialEq, Eq)]
 pub enum Word<'a> {
     Name(&'a [u8]),
     Open,

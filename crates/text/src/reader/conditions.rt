@@ -14,6 +14,7 @@ use tree::node::Clause;
 
 impl<'a> Reader<'a> {
     // Conjunctions parted by or.
+    // Not one function with conjunction: an enum with a match each for the mark, the part and the clause would stand in for six lines.
     #[cycle(condition_conjunction_disjunction_literal)]
     fn disjunction(&mut self, level: Level<'_>) -> Result<u16, TextFault>
         ensures { MatchResult result (λ i. CondRead disjunction level.entry self.old self.new i) (λ f. CondRefused disjunction level.entry self.old f) }

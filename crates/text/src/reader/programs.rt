@@ -12,6 +12,7 @@ use tree::node::{Clause, Node};
 
 impl<'a> Reader<'a> {
     // Sequences parted by |.
+    // Not one function with sequence: choice, sequence, item and atom are readers of these names, and each calls the next, as in the grammar.
     #[cycle(atom_choice_inside_item_sequence)]
     pub(super) fn choice(&mut self, level: Level<'_>) -> Result<u16, TextFault>
         ensures { MatchResult result (λ i. ProgRead choice level.entry self.old self.new i) (λ f. ProgRefused choice level.entry self.old f) }

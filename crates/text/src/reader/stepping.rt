@@ -2,16 +2,19 @@ ghost use Rattle.std.specs.Prelude.{◌≡◌, ◌+◌, ◌<◌, ◌≤◌, Some
 ghost use Rattle.golog.specs.Reading.{most_words, most_depth};
 ghost use Rattle.text.specs.Said.{said, mark_word};
 ghost use Rattle.text.specs.Rest.{Deeper};
-ghost use Rattle.text.specs.Steps.{Passed, Taken, TakenAct, OverDone, OverDoneAct, OverDeep, Takes, Unclosed, Unplaced};
+ghost use Rattle.text.specs.Steps.{Passed, Full, Taken, TakenAct, OverDone, OverDoneAct, OverDeep, Takes, Unclosed, Unplaced};
 
 use super::{Level, Reader};
 use crate::fault::{TextFault, WordFault};
 use crate::word::{Mark, Token, Word};
 
+// The most words of a text.
 const MOST_WORDS: usize = 512;
 
+// The most act words of a text.
 const MOST_ACT_WORDS: usize = 63;
 
+// The most parts that are open round another.
 const MOST_DEPTH: usize = 32;
 
 impl<'a> Level<'a> {
@@ -22,6 +25,7 @@ impl<'a> Level<'a> {
         if self.depth >= MOST_DEPTH {
             return None;
         }
+        // Not `..self`, which a struct with an invariant does not take.
         Some(Level {
             facts: self.facts,
             acts: self.acts,
@@ -32,25 +36,17 @@ impl<'a> Level<'a> {
 }
 
 impl<'a> Reader<'a> {
-    // Goes on to the next word.
-    fn pass(&mut self, token: Token<'a>)
-        requires ahead_value { self.old.ahead ≡ Some token }
-        requires taken_lt_most_words { self.old.taken < most_words }
-        ensures { Passed self.old self.new token.entry }
-    {
-        self.taken += 1;
-        self.ahead = self.words.next();
-    }
-
     // Takes the word ahead, unless there are too many.
+    // The word is passed in: the caller has found it ahead, and a second look would have a branch for the text's end that never runs.
     pub(super) fn take(&mut self, token: Token<'a>) -> Result<(), TextFault>
         requires { self.old.ahead ≡ Some token }
-        ensures { MatchResult result (λ _. Taken self.old self.new (said token.entry.word)) (λ f. OverDone self.old (said token.entry.word) f) }
+        ensures { MatchResult result (λ _. Passed self.old self.new token.entry) (λ f. Full self.old token.entry f) }
     {
         if self.taken >= MOST_WORDS {
             return Err(TextFault::OverLimit(token.at));
         }
-        self.pass(token);
+        self.taken += 1;
+        self.ahead = self.words.next();
         Ok(())
     }
 
@@ -59,13 +55,10 @@ impl<'a> Reader<'a> {
         requires { self.old.ahead ≡ Some token }
         ensures { MatchResult result (λ _. TakenAct self.old self.new (said token.entry.word)) (λ f. OverDoneAct self.old (said token.entry.word) f) }
     {
-        if self.taken >= MOST_WORDS {
-            return Err(TextFault::OverLimit(token.at));
-        }
         if self.acts >= MOST_ACT_WORDS {
             return Err(TextFault::OverLimit(token.at));
         }
-        self.pass(token);
+        self.take(token)?;
         self.acts += 1;
         Ok(())
     }
@@ -91,10 +84,7 @@ impl<'a> Reader<'a> {
         let Some(token) = self.ahead else {
             return Ok(false);
         };
-        let Word::Behind(found) = token.word else {
-            return Ok(false);
-        };
-        if found != mark {
+        if token.word != Word::Behind(mark) {
             return Ok(false);
         }
         self.take(token)?;

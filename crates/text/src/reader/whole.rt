@@ -13,10 +13,10 @@ use tree::tree::Tree;
 use words::names::Names;
 
 // The tree of a whole text, and the entry that is its program.
-pub(crate) fn read_whole<'a>(
+pub(crate) fn read_whole(
     heap: Global,
-    facts: &'a Names,
-    acts: &'a Names,
+    facts: &Names,
+    acts: &Names,
     text: &[u8],
 ) -> Result<(Tree, u16), TextFault>
     ensures { MatchResult result (λ p. (p.1 < length (nodes p.0)) × (read (both_names facts.now acts.now) text.now ≡ a_tree (prog_at p.0 p.1))) (λ f. Tells f (read (both_names facts.now acts.now) text.now)) }
@@ -37,7 +37,7 @@ pub(crate) fn read_whole<'a>(
         tree: Tree::new(heap),
     };
     let root = reader.choice(level)?;
-    if let Some(_token) = reader.ahead {
+    if reader.ahead.is_some() {
         return Err(reader.misplaced(level.end));
     }
     let Reader { tree, .. } = reader;

@@ -1,4 +1,4 @@
-use Rattle.std.proofs.Common.{length, refl, ◌∙◌, arith}
+use Rattle.std.proofs.Common.{length, refl, ◌∙◌, arith, rules}
 use Rattle.text.specs.declared.reader.Level.{Level}
 use Rattle.text.specs.Rest.{both_names, names_of}
 use Rattle.text.proofs.Stepping.{hands_on}
@@ -13,12 +13,12 @@ returns-in_err-root c =
     (reading_begins (names_of V) c.args.text.now _ (first_rest c.next-ahead.result c.new-words.result c.next-ahead.new.self c.next-ahead.ensures.steps ∙ c.new-words.ensures) refl refl)
     c.in_err-root.field-0.0 c.in_err-root.ensures)
 
-pub returns-in-Some : goal.returns-in-Some
-returns-in-Some c =
+pub returns-then-is_some : goal.returns-then-is_some
+returns-then-is_some c =
     let N = both_names c.args.facts.now c.args.acts.now in
     whole_unplaced _ c.args.text.now _ refl
     (reading_begins N c.args.text.now _ (first_rest c.next-ahead.result c.new-words.result c.next-ahead.new.self c.next-ahead.ensures.steps ∙ c.new-words.ensures) refl refl)
-    c.choice.new.self _ c.in_ok-root.ensures c.in-Some._token c.in-Some.is c.misplaced.result c.misplaced.ensures
+    c.choice.new.self _ c.in_ok-root.ensures (search rules) c.misplaced.result c.misplaced.ensures
 
 pub returns : goal.returns
 returns c =
@@ -26,5 +26,5 @@ returns c =
       c.in_ok-root.ensures.there,
       whole_read _ c.args.text.now _ refl
           (reading_begins N c.args.text.now _ (first_rest c.next-ahead.result c.new-words.result c.next-ahead.new.self c.next-ahead.ensures.steps ∙ c.new-words.ensures) refl refl)
-          c.choice.new.self _ c.in_ok-root.ensures c.in_default.is,
+          c.choice.new.self _ c.in_ok-root.ensures (search rules),
     )
