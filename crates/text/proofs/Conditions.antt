@@ -116,15 +116,6 @@ module _ (V : Level) where
     so_far K A B L O o e =
         r.on K A B L (O.0, none) tt e ∙ (ap (goes_on V a) (operand_open K A B L (O.0, none) (cond_at a.tree i) o) ∙ q.on K A B L O o e)
 
-    pub conjunction_read : (next_mark (rest t) ≡ some mark.And → ⊥) → CondRead conjunction V s t j
-    conjunction_read n = record {
-      fewer = omega (arith, r.fewer, q.fewer);
-      stops = n;
-      grows = grows_trans s.tree a.tree t.tree r.grows q.grows;
-      there = q.there;
-      on = so_far;
-    }
-
     pub conjunction_over : (f : TextFault) → OverDone t (mark_word mark.And) f → CondRefused conjunction V s f
     conjunction_over f x K A B L O o e = refusal f _ _ (so_far K A B L O o e) (x (names_of V) V.end _ (want_cond K A B L (O.0, some (cond_at t.tree j))) refl)
 

@@ -1,12 +1,12 @@
 -- A text, cut one byte on.
-use Rattle.std.proofs.Common.{◌-◌, not, cond, ◌==◌, append-nil, append_assoc, length-drop, Bor, map, Some, None, subst, ◌≡◌, ℕ, suc, ◌+◌, ◌<◌, ◌≤◌, Bool, true, false, List, [], ◌∷◌, ◌++◌, length, get_or, take, drop, sym, refl, ap, ◌∙◌, ap₂, add-one, arith, ne_eqb}
+use Rattle.std.proofs.Common.{◌-◌, not, cond, ◌==◌, append-nil, append_assoc, length-drop, Bor, map, Some, None, subst, ◌≡◌, ℕ, suc, ◌+◌, ◌<◌, Bool, true, false, List, [], ◌∷◌, ◌++◌, length, get_or, take, drop, sym, refl, ap, ◌∙◌, ap₂, add-one, arith, ne_eqb}
 use Rattle.std.proofs.lemmas.Bool.Decides.{nat_tests}
 use Rattle.std.proofs.lemmas.Bool.{true≢false}
 use mathlib.Core.Option.{Option, none, some}
 use Rattle.std.specs.List.{between, prefix_len, find}
 use Rattle.std.specs.Prelude as options
 use Rattle.std.specs.Option.{option_map, MatchOption}
-use Rattle.std.proofs.lemmas.List.{drop_more, drop_all, drop-drop, get_or-drop}
+use Rattle.std.proofs.lemmas.List.{drop_more, drop-drop, get_or-drop}
 use Rattle.golog.specs.Words.{Word, Byte, Token, beside, signs, blank, byte_kind, cut, token, run_word}
 use Rattle.golog.specs.Words.Word.{strange}
 use Rattle.golog.specs.Words.Byte.{space, hash, part, lone}
@@ -149,10 +149,7 @@ pub reserved_is : (n : Option Word) (o : options.Option (Bor (Bor (List ℕ) × 
 reserved_is n None r e h = subst (λ r. MatchOption r (n ≡ none) (λ w. n ≡ some (said w))) (sym h) e
 reserved_is n (Some y) r e h = subst (λ r. MatchOption r (n ≡ none) (λ w. n ≡ some (said w))) (sym h) e
 
--- at the end of the text
-pub gap_all : (xs : List ℕ) (i : ℕ) → length xs ≤ i → cut gap i (drop i xs) ≡ []
-gap_all xs i h = ap (cut gap i) (drop_all i xs h)
-
+-- one byte on, between words
 module _ (xs : List ℕ) (i : ℕ) (h : i < length xs) where
   gap_step : (k : Byte) → k ≡ byte_kind (get_or xs i 0) → cut gap i (drop i xs) ≡ at_gap k i (get_or xs i 0) (drop (i + 1) xs)
   gap_step k e = ap (cut gap i) (drop_more xs i 0 h) ∙ ap (λ t. at_gap t i (get_or xs i 0) (drop (i + 1) xs)) (sym e)

@@ -17,7 +17,7 @@ use Rattle.golog.specs.Reading.Frame.{in_round, in_then, in_else, in_do}
 use Rattle.golog.specs.Reading.Base.{of_test, of_if, of_while}
 use Rattle.golog.specs.Reading.State.{want, have, want_cond, have_cond}
 use Rattle.golog.specs.Reading.Advance.{goes, goes_by_act, misfit, unfamiliar}
-use Rattle.tree.specs.Held.{clauses, nodes, cond_at, prog_at}
+use Rattle.tree.specs.Held.{nodes, cond_at, prog_at}
 use Rattle.text.specs.declared.word.Mark.{Mark}
 use Rattle.text.specs.declared.word.Mark.TheVariants as mark
 use Rattle.text.specs.declared.fault.TextFault.{TextFault}
@@ -30,7 +30,7 @@ use Rattle.text.specs.Built.{Grows, Built}
 use Rattle.text.specs.Conds.{base_closer, CondClosed, CondUnclosed, CondTaken}
 use Rattle.text.specs.Progs.{ProgStops, ProgRead, ProgJoined, ProgRefused, frame_closer, InsideRead, InsideRefused}
 use Rattle.text.proofs.Stepping.{alike, refusal, deeper_on}
-use Rattle.text.proofs.Growing.{grows_same, grows_trans, cond_there, prog_there, cond_stays, prog_stays, unmoved_going}
+use Rattle.text.proofs.Growing.{grows_same, grows_trans, cond_stays, prog_stays, unmoved_going}
 
 -- a program with what was read before it, and the same joined
 module _ (N : Names) (len : ℕ) (s : Reader) (K : List Frame) where
@@ -86,15 +86,6 @@ module _ (V : Level) where
     star_so_far : (K : List Frame) (A : Sofar) → length K ≡ V.depth → goes_on V s (want K A) ≡ goes_on V t (have K A (prog_at t.tree j))
     star_so_far K A e = r.on K A e ∙ q.on K A e
 
-    pub item_read : (next_mark (rest t) ≡ some mark.Star → ⊥) → ProgRead item V s t j
-    item_read n = record {
-      fewer = omega (arith, r.fewer, q.fewer);
-      stops = n;
-      grows = grows_trans s.tree a.tree t.tree r.grows q.grows;
-      there = q.there;
-      on = star_so_far;
-    }
-
     pub item_over : (f : TextFault) → OverDone t (mark_word mark.Star) f → ProgRefused item V s f
     item_over f x K A e = refusal f _ _ (star_so_far K A e) (x (names_of V) V.end _ (have K A (star (prog_at t.tree j))) refl)
 
@@ -119,15 +110,6 @@ module _ (V : Level) where
   module _ (s a : Reader) (i j : ℕ) (r : ProgRead item V s a i) (t : Reader) (q : ProgJoined sequence item V a i t j) where
     seq_so_far : (K : List Frame) (A : Sofar) → length K ≡ V.depth → goes_on V s (want K (A.0, none)) ≡ goes_on V t (have K (A.0, none) (prog_at t.tree j))
     seq_so_far K A e = r.on K (A.0, none) e ∙ q.on K A e
-
-    pub sequence_read : (next_mark (rest t) ≡ some mark.Semicolon → ⊥) → ProgRead sequence V s t j
-    sequence_read n = record {
-      fewer = omega (arith, r.fewer, q.fewer);
-      stops = (q.stops, n);
-      grows = grows_trans s.tree a.tree t.tree r.grows q.grows;
-      there = q.there;
-      on = seq_so_far;
-    }
 
     pub sequence_over : (f : TextFault) → OverDone t (mark_word mark.Semicolon) f → ProgRefused sequence V s f
     sequence_over f x K A e = refusal f _ _ (seq_so_far K A e) (x (names_of V) V.end _ (want K (A.0, some (prog_at t.tree j))) refl)
@@ -405,12 +387,6 @@ module _ (V : Level) (s : Reader) where
             (x (in_else A (cond_at b.tree c) (prog_at d.tree q)) K (omega arith) refl (λ z. (have K A (if_then_else (cond_at b.tree c) (prog_at d.tree q) z), refl)))
 
         module _ (k : Reader) (z : ℕ) (u : InsideRead W d k mark.Fi z) where
-          pub if_cond_there : c < length (clauses k.tree)
-          if_cond_there = cond_there b.tree k.tree (grows_trans b.tree d.tree k.tree y.grows u.grows) c r.there
-
-          pub if_then_there : q < length (nodes k.tree)
-          if_then_there = prog_there d.tree k.tree u.grows q y.there
-
           pub if_read : (t : Reader) (i : ℕ) → Built k t (if_then_else (cond_at k.tree c) (prog_at k.tree q) (prog_at k.tree z)) i → ProgRead atom V s t i
           if_read t i m =
               let more = grows_trans b.tree d.tree k.tree y.grows u.grows in
@@ -432,9 +408,6 @@ module _ (V : Level) (s : Reader) where
           refusal f _ _ (while_on K A e) (x (in_do A (cond_at b.tree c)) K (omega arith) refl (λ q. (have K A (while_do (cond_at b.tree c) q), refl)))
 
       module _ (d : Reader) (q : ℕ) (y : InsideRead W b d mark.Od q) where
-        pub while_cond_there : c < length (clauses d.tree)
-        while_cond_there = cond_there b.tree d.tree y.grows c r.there
-
         pub while_read : (t : Reader) (i : ℕ) → Built d t (while_do (cond_at d.tree c) (prog_at d.tree q)) i → ProgRead atom V s t i
         while_read t i m =
             atom_built d t (while_do (cond_at d.tree c) (prog_at d.tree q)) i (omega (arith, p.fewer, r.fewer, y.fewer))

@@ -8,7 +8,7 @@ use Rattle.std.proofs.lemmas.Result.{err_from_is_err_and}
 use Rattle.golog.specs.Words as golog
 use Rattle.golog.specs.Grammar.{Names}
 use Rattle.golog.specs.Reading.{State, Reading, advance, depth, in_limits, after_word, finish, read_on, most_words, most_act_words, most_depth}
-use Rattle.golog.specs.Reading.Advance.{goes, goes_by_act, misfit, unfamiliar}
+use Rattle.golog.specs.Reading.Advance.{goes, goes_by_act, unfamiliar}
 use Rattle.golog.specs.Reading.Reading.{refused}
 use Rattle.golog.specs.Reading.TextFault.{misplaced, unknown, over_limit}
 use Rattle.text.specs.declared.word.Token.{Token}
@@ -116,13 +116,7 @@ unfolding going
 unfit_end s e N len S h =
     ap (λ a. read_on N len (rest_from a s.words) s.taken s.acts S) e ∙ subst (λ a. Unfit N len S (rest_from a s.words)) e h
 
--- what has no place
-pub end_unfit : (s : Reader) → s.ahead ≡ None → (N : Names) (len : ℕ) (S : State) → finish len S ≡ refused (misplaced len) → Unfit N len S (rest s)
-end_unfit s e N len S h = subst (λ a. Unfit N len S (rest_from a s.words)) (sym e) h
-
-pub word_unfit : (s : Reader) (x : Token) → s.ahead ≡ Some x → (N : Names) (len : ℕ) (S : State) → advance N S (said x.word) ≡ misfit → Unfit N len S (rest s)
-word_unfit s x e N len S h = subst (λ a. Unfit N len S (rest_from a s.words)) (sym e) h
-
+-- a name that is not known
 pub unknown_word : (s : Reader) (x : Token) → s.ahead ≡ Some x → (N : Names) (len : ℕ) (S : State) → advance N S (said x.word) ≡ unfamiliar →
     going N len s S ≡ refused (unknown x.at)
 unfolding going

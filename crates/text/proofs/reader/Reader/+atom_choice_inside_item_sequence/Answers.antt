@@ -9,14 +9,14 @@ use Rattle.golog.specs.Reading.Frame.{in_then, in_do}
 use Rattle.golog.specs.Reading.Base.{of_test, of_if, of_while}
 use Rattle.golog.specs.Reading.State.{want, have}
 use mathlib.Core.Option.{none}
-use Rattle.golog.specs.Grammar.Sort.{choice, sequence, item}
+use Rattle.golog.specs.Grammar.Sort.{choice}
 use Rattle.text.specs.declared.word.Mark.TheVariants as mark
 use Rattle.text.specs.Said.{said}
 use Rattle.text.specs.Steps.{Taken, OverDone, OverDeep}
 use Rattle.text.specs.Conds.{CondTaken}
 use Rattle.text.specs.Progs.{ProgRead}
 use Rattle.text.proofs.Stepping.{hands_on, memory_tells, takes_yes, takes_no}
-use Rattle.text.proofs.Programs.{item_read, item_over, star_joined, sequence_read, sequence_over, sequence_refused, seq_joined, choice_read, choice_over, choice_refused, alt_joined, inside_refused, inside_unclosed, inside_read, nil_over, nil_read, guard_over, guard_refused, test_read, round_over, round_refused, round_read, then_refused, else_refused, if_cond_there, if_then_there, if_read, do_refused, while_cond_there, while_read}
+use Rattle.text.proofs.Programs.{item_over, star_joined, sequence_over, sequence_refused, seq_joined, choice_read, choice_over, choice_refused, alt_joined, inside_refused, inside_unclosed, inside_read, nil_over, nil_read, guard_over, guard_refused, test_read, round_over, round_refused, round_read, then_refused, else_refused, if_read, do_refused, while_read}
 use Rattle.text.proofs.reader.Reader.+atom_choice_inside_item_sequence.Goals as goal
 
 pub item-returns-in_err-takes : goal.item-returns-in_err-takes
@@ -29,12 +29,6 @@ pub item-loop-self-preserved : goal.item-loop-self-preserved
 item-loop-self-preserved t c =
     star_joined c.args.level c.atom.new.self c.in_ok-part.part c.loop-self.self c.loop-self.part c.loop-self.invariant
     c.takes.new.self c.node.new.self _ (takes_yes _ c.loop-self.self c.takes.new.self mark.Star c.if-branch.true c.in_ok-takes.ensures) c.in_ok-part-2.ensures
-
-pub item-returns : goal.item-returns
-item-returns t c =
-    let no = takes_no _ c.loop-self.self c.takes.new.self mark.Star c.if-branch.false c.in_ok-takes.ensures in
-    subst (λ u. ProgRead item c.args.level c.args.self.now u c.loop-self.part) (sym no.0)
-    (item_read c.args.level c.args.self.now c.atom.new.self _ _ c.in_ok-part.ensures c.loop-self.self c.loop-self.invariant no.1)
 
 pub sequence-returns-in_err-takes : goal.sequence-returns-in_err-takes
 sequence-returns-in_err-takes t c =
@@ -54,12 +48,6 @@ sequence-loop-self-preserved t c =
     seq_joined c.args.level c.item.new.self c.in_ok-left.left c.loop-self.self c.loop-self.left c.loop-self.invariant
     c.takes.new.self _ c.node.new.self _ _ (takes_yes _ c.loop-self.self c.takes.new.self mark.Semicolon c.if-branch.true c.in_ok-takes.ensures)
     c.in_ok-right.ensures c.in_ok-left-2.ensures
-
-pub sequence-returns : goal.sequence-returns
-sequence-returns t c =
-    let no = takes_no _ c.loop-self.self c.takes.new.self mark.Semicolon c.if-branch.false c.in_ok-takes.ensures in
-    subst (λ u. ProgRead sequence c.args.level c.args.self.now u c.loop-self.left) (sym no.0)
-    (sequence_read c.args.level c.args.self.now c.item.new.self _ _ c.in_ok-left.ensures c.loop-self.self c.loop-self.invariant no.1)
 
 pub choice-returns-in_err-left : goal.choice-returns-in_err-left
 choice-returns-in_err-left t c =
@@ -192,15 +180,6 @@ atom-returns-in_err-q-in-If t c =
     (else_refused c.args.level c.args.self.now c.open-in-If.new.self _ c.in_ok-inner-in-If.ensures.0 (subst (λ w. Taken c.args.self.now c.open-in-If.new.self (said w)) c.in-If.is c.in_ok-inner-in-If.ensures.1)
     c.condition-in-If.new.self _ c.in_ok-c-in-If.ensures c.inside-in-If.new.self _ c.in_ok-p-in-If.ensures c.in_err-q-in-If.field-0.0 c.in_err-q-in-If.ensures)
 
-pub atom-branch-self-requires : goal.atom-branch-self-requires
-atom-branch-self-requires t c = (record {
-  c_in_bounds = if_cond_there c.args.level c.args.self.now c.open-in-If.new.self _ c.in_ok-inner-in-If.ensures.0 (subst (λ w. Taken c.args.self.now c.open-in-If.new.self (said w)) c.in-If.is c.in_ok-inner-in-If.ensures.1)
-      c.condition-in-If.new.self _ c.in_ok-c-in-If.ensures c.inside-in-If.new.self _ c.in_ok-p-in-If.ensures c.inside-in-If-2.new.self _ c.in_ok-q-in-If.ensures;
-  p_in_bounds = if_then_there c.args.level c.args.self.now c.open-in-If.new.self _ c.in_ok-inner-in-If.ensures.0 (subst (λ w. Taken c.args.self.now c.open-in-If.new.self (said w)) c.in-If.is c.in_ok-inner-in-If.ensures.1)
-      c.condition-in-If.new.self _ c.in_ok-c-in-If.ensures c.inside-in-If.new.self _ c.in_ok-p-in-If.ensures c.inside-in-If-2.new.self _ c.in_ok-q-in-If.ensures;
-  q_in_bounds = c.in_ok-q-in-If.ensures.there;
-})
-
 pub atom-returns-in_ok-q-in-If : goal.atom-returns-in_ok-q-in-If
 atom-returns-in_ok-q-in-If t c =
     MatchResult-weaker c.branch-self.result c.branch-self.ensures
@@ -215,13 +194,6 @@ atom-returns-in_err-p-in-While t c =
     hands_on _ _ _ _ c.from_residual-in_err-p-in-While.ensures.1
     (do_refused c.args.level c.args.self.now c.open-in-While.new.self _ c.in_ok-inner-in-While.ensures.0 (subst (λ w. Taken c.args.self.now c.open-in-While.new.self (said w)) c.in-While.is c.in_ok-inner-in-While.ensures.1)
     c.condition-in-While.new.self _ c.in_ok-c-in-While.ensures c.in_err-p-in-While.field-0.0 c.in_err-p-in-While.ensures)
-
-pub atom-repeat-requires : goal.atom-repeat-requires
-atom-repeat-requires t c = (record {
-  c_in_bounds = while_cond_there c.args.level c.args.self.now c.open-in-While.new.self _ c.in_ok-inner-in-While.ensures.0 (subst (λ w. Taken c.args.self.now c.open-in-While.new.self (said w)) c.in-While.is c.in_ok-inner-in-While.ensures.1)
-      c.condition-in-While.new.self _ c.in_ok-c-in-While.ensures c.inside-in-While.new.self _ c.in_ok-p-in-While.ensures;
-  p_in_bounds = c.in_ok-p-in-While.ensures.there;
-})
 
 pub atom-returns-in_ok-p-in-While : goal.atom-returns-in_ok-p-in-While
 atom-returns-in_ok-p-in-While t c =

@@ -2,7 +2,7 @@ use Rattle.std.proofs.Common.{sym, ap, ◌∙◌, subst}
 use Rattle.std.proofs.lemmas.Result.{MatchResult-weaker}
 use Rattle.golog.specs.Programs.Cond.{always, never, fact}
 use mathlib.Core.Option.{none}
-use Rattle.golog.specs.Grammar.CondSort.{disjunction, conjunction}
+use Rattle.golog.specs.Grammar.CondSort.{disjunction}
 use Rattle.golog.specs.Reading.{advance}
 use Rattle.golog.specs.Reading.State.{want_cond}
 use Rattle.text.specs.declared.word.Mark.TheVariants.{And, Or}
@@ -11,7 +11,7 @@ use Rattle.text.specs.Rest.{names_of}
 use Rattle.text.specs.Steps.{Taken, OverDeep, OverDone}
 use Rattle.text.specs.Conds.{CondRead, CondTaken}
 use Rattle.text.proofs.Stepping.{hands_on, memory_tells, takes_yes, takes_no, nameless_tells}
-use Rattle.text.proofs.Conditions.{constant_read, constant_refused, conjunction_read, conjunction_over, conjunction_refused, and_joined, disjunction_read, disjunction_over, disjunction_refused, or_joined, negation_read, negation_over, negation_refused, bracket_read, bracket_over, bracket_refused, closed_refused, closed_not, closed_read, fact_is, fact_unknown, true_is, false_is}
+use Rattle.text.proofs.Conditions.{constant_read, constant_refused, conjunction_over, conjunction_refused, and_joined, disjunction_read, disjunction_over, disjunction_refused, or_joined, negation_read, negation_over, negation_refused, bracket_read, bracket_over, bracket_refused, closed_refused, closed_not, closed_read, fact_is, fact_unknown, true_is, false_is}
 use Rattle.text.proofs.reader.Reader.+condition_conjunction_disjunction_literal.Goals as goal
 
 pub conjunction-returns-in_err-takes : goal.conjunction-returns-in_err-takes
@@ -32,12 +32,6 @@ conjunction-loop-self-preserved t c =
     and_joined c.args.level c.literal.new.self c.in_ok-left.left c.loop-self.self c.loop-self.left c.loop-self.invariant
     c.takes.new.self _ c.clause.new.self _ _ (takes_yes _ c.loop-self.self c.takes.new.self And c.if-branch.true c.in_ok-takes.ensures)
     c.in_ok-right.ensures c.in_ok-left-2.ensures
-
-pub conjunction-returns : goal.conjunction-returns
-conjunction-returns t c =
-    let no = takes_no _ c.loop-self.self c.takes.new.self And c.if-branch.false c.in_ok-takes.ensures in
-    subst (λ u. CondRead conjunction c.args.level c.args.self.now u c.loop-self.left) (sym no.0)
-    (conjunction_read c.args.level c.args.self.now c.literal.new.self _ _ c.in_ok-left.ensures c.loop-self.self c.loop-self.invariant no.1)
 
 pub disjunction-returns-in_err-left : goal.disjunction-returns-in_err-left
 disjunction-returns-in_err-left t c =
