@@ -1,8 +1,7 @@
-ghost use Rattle.std.specs.Prelude.{◌≡◌, ℕ, ◌+◌, ◌-◌, ◌<◌, ◌≤◌, true, false, [], ◌∷◌, length, drop, MatchOption, slice_index};
+ghost use Rattle.std.specs.Prelude.{◌≡◌, ◌<◌, ◌≤◌, true, ◌∷◌, length, drop, MatchOption, slice_index};
 ghost use Rattle.std.proofs.Math.Option.{none, some};
 ghost use Rattle.std.specs.Iterator.{YieldsFirstBy, item_count};
 ghost use Rattle.std.specs.List.{between};
-ghost use Rattle.words.specs.Names.{is_name_byte};
 ghost use Rattle.golog.specs.Words.{byte_kind, cut, token, tokens, beside, reserved, run_word, name_shaped};
 ghost use Rattle.golog.specs.Words.Cutting.{gap, comment};
 ghost use Rattle.golog.specs.Words.Byte.{part};

@@ -3,7 +3,6 @@ ghost use Rattle.golog.specs.Programs.{names_below};
 ghost use Rattle.golog.specs.Points.{words};
 ghost use Rattle.golog.specs.Reading.{most_act_words};
 ghost use Rattle.tree.specs.Held.{prog_at};
-ghost use Rattle.text.specs.Rest.{both_names};
 ghost use Rattle.text.specs.Parse.{ReadAs, RefusedAs, parsed_tree};
 
 use super::Parsed;

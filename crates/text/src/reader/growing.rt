@@ -1,5 +1,5 @@
 ghost use Rattle.std.specs.Prelude.{◌≡◌, ◌<◌, length, MatchResult};
-ghost use Rattle.std.proofs.Math.Option.{none, some};
+ghost use Rattle.std.proofs.Math.Option.{some};
 ghost use Rattle.words.specs.Listed.{name_list};
 ghost use Rattle.golog.specs.Programs.{if_then_else, while_do};
 ghost use Rattle.golog.specs.Programs.Prog.{test, seq};

@@ -1,5 +1,5 @@
-ghost use Rattle.std.specs.Prelude.{◌≡◌, ◌+◌, ◌<◌, ◌≤◌, Some, MatchOption, MatchResult};
-ghost use Rattle.golog.specs.Reading.{most_words, most_depth};
+ghost use Rattle.std.specs.Prelude.{◌≡◌, Some, MatchOption, MatchResult};
+ghost use Rattle.golog.specs.Reading.{most_depth};
 ghost use Rattle.text.specs.Said.{said, mark_word};
 ghost use Rattle.text.specs.Rest.{Deeper};
 ghost use Rattle.text.specs.Steps.{Passed, Full, Taken, TakenAct, OverDone, OverDoneAct, OverDeep, Takes, Unclosed, Unplaced};
