@@ -1,7 +1,7 @@
 -- The words of a routine's text.
-use Rattle.std.specs.Prelude.{ℕ, suc, Bool, true, false, cond, ◌&&◌, ◌||◌, List, [], ◌∷◌, ◌++◌, length, codes, ◌==◌, nat_le}
+use Rattle.std.specs.Prelude.{ℕ, suc, Bool, true, false, cond, ◌||◌, List, [], ◌∷◌, ◌++◌, codes, ◌==◌}
 use Rattle.std.proofs.Math.Option.{Option, none, some}
-use Rattle.words.specs.Names.{same_word, reserved_words, is_letter, is_name_byte, most_letters}
+use Rattle.words.specs.Names.{same_word, reserved_words, is_name_byte, name_shaped}
 
 -- Words by where they may stand. These begin an atom: [ nil if while
 pub data Begin : Type 0 where
@@ -80,11 +80,6 @@ signs =
 -- space, tab, CR and LF
 abbrev pub blank : ℕ → Bool
 blank b = b == 32 || (b == 9 || (b == 13 || b == 10))
-
--- A name begins with a letter and has at most 24 bytes.
-abbrev pub name_shaped : List ℕ → Bool
-name_shaped [] = false
-name_shaped (b ∷ bs) = is_letter b && nat_le (suc (length bs)) most_letters
 
 -- A run of letters, digits and underscores is a reserved word, a name, or strange.
 abbrev name_or_strange : List ℕ → Option Word → Word

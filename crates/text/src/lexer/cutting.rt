@@ -2,7 +2,7 @@ ghost use Rattle.std.specs.Prelude.{◌≡◌, ◌<◌, ◌≤◌, true, ◌∷�
 ghost use Rattle.std.proofs.Math.Option.{none, some};
 ghost use Rattle.std.specs.Iterator.{YieldsFirstBy, item_count};
 ghost use Rattle.std.specs.List.{between};
-ghost use Rattle.golog.specs.Words.{byte_kind, cut, token, tokens, beside, reserved, run_word, name_shaped};
+ghost use Rattle.golog.specs.Words.{byte_kind, cut, token, tokens, beside, reserved, run_word};
 ghost use Rattle.golog.specs.Words.Cutting.{gap, comment};
 ghost use Rattle.golog.specs.Words.Byte.{part};
 ghost use Rattle.text.specs.Said.{said, said_kind, word_byte};
@@ -10,10 +10,7 @@ ghost use Rattle.text.specs.Left.{said_token, left};
 
 use super::Words;
 use crate::word::{Mark, Token, Word};
-use words::{is_letter, is_name_byte, same_word};
-
-// The longest name.
-const MOST_LETTERS: usize = 24;
+use words::{is_name_byte, is_name_shaped, same_word};
 
 // The words that no name may be.
 const RESERVED: [(&[u8], Word<'static>); 13] = [
@@ -45,16 +42,16 @@ impl From<u8> for Kind {
     ghost from_gives = { λ b k. said_kind k ≡ byte_kind b };
 
     fn from(b: u8) -> Kind {
-        match b {
-            b' ' | b'\t' | b'\r' | b'\n' => Kind::Blank,
-            b'#' => Kind::Hash,
-            b'(' => Kind::Lone(Word::Open),
-            b')' => Kind::Lone(Word::Behind(Mark::Close)),
-            b'[' => Kind::Lone(Word::OpenSquare),
-            b']' => Kind::Lone(Word::Behind(Mark::CloseSquare)),
-            b';' => Kind::Lone(Word::Behind(Mark::Semicolon)),
-            b'|' => Kind::Lone(Word::Behind(Mark::Bar)),
-            b'*' => Kind::Lone(Word::Behind(Mark::Star)),
+        match b as char {
+            ' ' | '\t' | '\r' | '\n' => Kind::Blank,
+            '#' => Kind::Hash,
+            '(' => Kind::Lone(Word::Open),
+            ')' => Kind::Lone(Word::Behind(Mark::Close)),
+            '[' => Kind::Lone(Word::OpenSquare),
+            ']' => Kind::Lone(Word::Behind(Mark::CloseSquare)),
+            ';' => Kind::Lone(Word::Behind(Mark::Semicolon)),
+            '|' => Kind::Lone(Word::Behind(Mark::Bar)),
+            '*' => Kind::Lone(Word::Behind(Mark::Star)),
             _ if is_name_byte(b) => Kind::Part,
             _ => Kind::Lone(Word::Strange),
         }
@@ -107,7 +104,7 @@ fn run_word(run: &[u8]) -> Word<'_>
 {
     match reserved(run) {
         Some(word) => word,
-        None if name_shaped(run) => Word::Name(run),
+        None if is_name_shaped(run) => Word::Name(run),
         None => Word::Strange,
     }
 }
@@ -120,16 +117,6 @@ fn reserved(run: &[u8]) -> Option<Word<'static>>
         .iter()
         .find(|(letters, _)| same_word(letters, run))
         .map(|(_, word)| *word)
-}
-
-// Whether a run begins as a name and is not too long.
-fn name_shaped(run: &[u8]) -> bool
-    ensures { result ≡ name_shaped run.now }
-{
-    match run {
-        [first, ..] => is_letter(*first) && run.len() <= MOST_LETTERS,
-        [] => false,
-    }
 }
 
 impl<'a> Words<'a> {
