@@ -1,12 +1,11 @@
 -- The range of each field, with the field's offset in the body.
 use Rattle.std.specs.Prelude.{ℕ, ◌^◌, Bool, true, false, cond, ◌&&◌, ◌||◌, List, [], ◌∷◌, Some, None, Option, ◌==◌, nat_le, nat_lt}
+use Rattle.locks.specs.Meaning.{most_facts, most_acts, reactions}
+use Rattle.locks.specs.Allowed.{most_borne}
+use Rattle.lowest.specs.Listed.{most_listed}
 use Rattle.items.specs.declared.item.Header.{Header}
 use Rattle.items.specs.Layout.{Entry}
 use Rattle.items.specs.Layout.Entry.{head, fact, act, rule, change, state, move, mark, allowance, routine}
-
--- the most states of a lock whose states are listed
-abbrev pub most_listed : ℕ
-most_listed = 1024
 
 -- the first field, front to back, that fails its test
 abbrev pub first_bad : List (ℕ × Bool) → Option ℕ
@@ -25,7 +24,7 @@ right_states h = cond (h.form == 1) (h.states == 2 ^ h.facts) (nat_le 1 h.states
 -- each field of a head with its test
 abbrev pub head_tests : Header → List (ℕ × Bool)
 head_tests h =
-    (0, (h.form == 1) || h.form == 2) ∷ ((1, nat_le 1 h.facts && nat_le h.facts 12) ∷ ((2, nat_le 1 h.acts && nat_le h.acts 31)
+    (0, (h.form == 1) || h.form == 2) ∷ ((1, nat_le 1 h.facts && nat_le h.facts most_facts) ∷ ((2, nat_le 1 h.acts && nat_le h.acts most_acts)
     ∷ ((3, right_states h) ∷ ((5, nat_lt h.first h.states) ∷ []))))
 
 -- each field of an item with its test, under the head of its lock
@@ -36,12 +35,12 @@ field_tests h (act name) = []
 field_tests h (rule a need lack) =
     (0, nat_lt a h.acts) ∷ ((1, within_facts h.facts need) ∷ ((3, within_facts h.facts lack) ∷ []))
 field_tests h (change a e need lack set clear) =
-    (0, nat_lt a h.acts) ∷ ((1, nat_lt e 8) ∷ ((2, within_facts h.facts need) ∷ ((4, within_facts h.facts lack)
+    (0, nat_lt a h.acts) ∷ ((1, nat_lt e reactions) ∷ ((2, within_facts h.facts need) ∷ ((4, within_facts h.facts lack)
     ∷ ((6, within_facts h.facts set) ∷ ((8, within_facts h.facts clear) ∷ [])))))
 field_tests h (state v) = (0, within_facts h.facts v) ∷ []
-field_tests h (move s a e t) = (0, nat_lt s h.states) ∷ ((2, nat_lt a h.acts) ∷ ((3, nat_lt e 8) ∷ ((4, nat_lt t h.states) ∷ [])))
-field_tests h (mark a e) = (0, nat_lt a h.acts) ∷ ((1, nat_lt e 8) ∷ [])
-field_tests h (allowance k) = (0, nat_le k 7) ∷ []
+field_tests h (move s a e t) = (0, nat_lt s h.states) ∷ ((2, nat_lt a h.acts) ∷ ((3, nat_lt e reactions) ∷ ((4, nat_lt t h.states) ∷ [])))
+field_tests h (mark a e) = (0, nat_lt a h.acts) ∷ ((1, nat_lt e reactions) ∷ [])
+field_tests h (allowance k) = (0, nat_le k most_borne) ∷ []
 field_tests h (routine text) = []
 
 -- the offset of the first field out of range

@@ -5,16 +5,9 @@ ghost use Rattle.items.specs.Ranges.{first_bad, within_facts, right_states, head
 
 use super::item::{Header, Item};
 use super::kind::Form;
-
-const MOST_FACTS: u8 = 12;
-
-const MOST_ACTS: u8 = 31;
-
-const MOST_LISTED: u16 = 1024;
-
-const REACTIONS: u8 = 8;
-
-const MOST_ALLOWANCE: u8 = 7;
+use locks::allowance::MOST_BORNE;
+use locks::lock::{MOST_ACTS, MOST_FACTS, REACTIONS};
+use lowest::listed::MOST_LISTED;
 
 // The offset of the first field that failed its test.
 fn first_bad(tests: &[(usize, bool)]) -> Option<usize>
@@ -53,7 +46,7 @@ fn right_states(head: &Header) -> bool
 {
     match Form::try_from(head.form) {
         Ok(Form::Facts) => is_power(head.facts, head.states),
-        _ => (1..=MOST_LISTED).contains(&head.states),
+        _ => (1..=MOST_LISTED).contains(&u32::from(head.states)),
     }
 }
 
@@ -132,6 +125,6 @@ pub fn bad_field(head: &Header, item: Item<'_>) -> Option<usize>
             (0, act < head.acts),
             (1, reaction < REACTIONS),
         ]),
-        Item::Allowance(k) => first_bad(&[(0, k <= MOST_ALLOWANCE)]),
+        Item::Allowance(k) => first_bad(&[(0, k <= MOST_BORNE)]),
     }
 }
