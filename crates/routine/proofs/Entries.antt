@@ -1,5 +1,5 @@
 -- What an entry of a tree stands for, from what the entry is.
-use Rattle.std.proofs.Common.{◌≡◌, ℕ, ◌≤◌, length, get_or, sym, ap, ◌∙◌, inl, inr}
+use Rattle.std.proofs.Common.{◌≡◌, ℕ, ◌≤◌, length, get_or, sym, ap, ◌∙◌, subst, inl, inr}
 use Rattle.std.proofs.lemmas.List.{get_or_past}
 use Rattle.std.proofs.lemmas.Bool.{cases_lt}
 use Rattle.golog.specs.Programs.{Valuation, eval}
@@ -12,6 +12,9 @@ use Rattle.tree.specs.declared.node.Node.TheVariants.{Act}
 use Rattle.tree.specs.declared.tree.Tree.{Tree}
 use Rattle.tree.specs.Trees.{cond_node, cond_to, cond_of, prog_node, prog_to, prog_of}
 use Rattle.tree.specs.Held.{clauses, nodes, cond_at, prog_at}
+use Rattle.routine.specs.Rows.{IsRow, IsStart}
+use Rattle.routine.specs.declared.row.Row.{Row}
+use Rattle.routine.specs.declared.row.Start.{Start}
 use Rattle.tree.proofs.Unrolled.{cond_unrolled, prog_unrolled}
 
 module _ (t : Tree) (i : ℕ) where
@@ -41,3 +44,13 @@ module _ (t : Tree) (i : ℕ) where
         | inl h ↦ sym (prog_unrolled (length (clauses t)) (nodes t) (clauses t) t.progs i h)
         | inr h ↦ ap (prog_node (prog_at t) (cond_at t)) (get_or_past (nodes t) i (Act 0) h) ∙ prog_past h
       ]
+
+  module _ (v : Valuation) (x : Node) (is : x ≡ get_or (nodes t) i (Act 0)) where
+    pub row_is : (k : ℕ) (r : Row) → IsRow (prog_node (prog_at t) (cond_at t) x) v k r → IsRow (prog_at t i) v k r
+    row_is k r = subst (λ δ. IsRow δ v k r) (prog_is x is)
+
+    pub row_back : (k : ℕ) (r : Row) → IsRow (prog_at t i) v k r → IsRow (prog_node (prog_at t) (cond_at t) x) v k r
+    row_back k r = subst (λ δ. IsRow δ v k r) (sym (prog_is x is))
+
+    pub start_is : (s : Start) → IsStart (prog_node (prog_at t) (cond_at t) x) v s → IsStart (prog_at t i) v s
+    start_is s = subst (λ δ. IsStart δ v s) (prog_is x is)

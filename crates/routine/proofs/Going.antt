@@ -1,8 +1,9 @@
 -- Which points go on.
-use Rattle.std.proofs.Common.{◌≡◌, ℕ, zero, suc, ◌+◌, ◌/◌, ◌%◌, ◌^◌, ◌<◌, ◌≤◌, Bool, true, false, not, ◌&&◌, ◌||◌, eqb, ltb, sym, refl, ap, ◌∙◌, ap₂, inl, inr, pow-suc, arith}
+use Rattle.std.proofs.Common.{◌≡◌, ℕ, zero, suc, ◌+◌, ◌/◌, ◌%◌, ◌^◌, ◌<◌, ◌≤◌, Bool, true, false, not, ◌&&◌, ◌||◌, eqb, ltb, sym, ap, ◌∙◌, ap₂, inl, inr, pow-suc, arith}
 use native.Mathlib.Nat.{div-eq_of_lt-le}
 use Rattle.std.proofs.lemmas.Nat.{pow_pos}
-use Rattle.std.proofs.lemmas.Bool.{cases_lt, cases_order, eq-eqb, ne_eqb, lt-ltb, le-ltb, or_cases, both_ways}
+use Rattle.std.proofs.Math.Bool.{and-true, and-false, or-false}
+use Rattle.std.proofs.lemmas.Bool.{false_from_ne_true, cases_lt, cases_order, eq-eqb, ne_eqb, lt-ltb, le-ltb, or_cases, both_ways}
 use Rattle.std.proofs.lemmas.Bool.Decides.{same_from_decides}
 use Rattle.locks.specs.Meaning.{any_below}
 use Rattle.golog.specs.Programs.{Prog, Valuation, Final}
@@ -18,10 +19,6 @@ use Rattle.routine.proofs.Masks.{has_past}
 
 pub same_tests : (a b : Bool) → (a ≡ true → b ≡ true) → (b ≡ true → a ≡ true) → a ≡ b
 same_tests a b f g = same_from_decides a b (f, g) (λ e. e, λ e. e)
-
-pub false_from : (a : Bool) → (a ≡ true → ⊥) → a ≡ false
-false_from true h = absurd (h refl)
-false_from false h = refl
 
 -- a number has a bit unless it is 0
 top_bit : (k n : ℕ) → 2 ^ k ≤ n → n < 2 ^ suc k → valuation n k ≡ true
@@ -67,31 +64,19 @@ final_past δ v zero h = absurd (omega arith)
 final_past δ v (suc k) h = (dead_past v 0 δ k (omega arith)).1
 
 pub next_past : (δ : Prog) (v : Valuation) (k q : ℕ) → points δ ≤ k → next δ v k q ≡ false
-next_past δ v k q h = false_from (next δ v k q) (λ e. let l = next_from δ v k q e in omega arith)
+next_past δ v k q h = false_from_ne_true (next δ v k q) (λ e. let l = next_from δ v k q e in omega arith)
 
 pub row_past : (δ : Prog) (v : Valuation) (k : ℕ) → points δ ≤ k → (false ≡ Final (rem δ k) v) × ((q : ℕ) → false ≡ next δ v k q)
 row_past δ v k h = (sym (final_past δ v k h), λ q. sym (next_past δ v k q h))
 
 pub goes_on_past : (δ : Prog) (v : Valuation) (k : ℕ) → points δ ≤ k → goes_on δ v k ≡ false
 goes_on_past δ v k h =
-    false_from (goes_on δ v k)
+    false_from_ne_true (goes_on δ v k)
     (λ e.
     elim (or_cases (Final (rem δ k) v) (any_below (points δ) (next δ v k)) e) [
       | inl x ↦ both_ways (Final (rem δ k) v) (final_past δ v k h) x
       | inr x ↦ let (q, _, y) = any_found (points δ) (next δ v k) x in both_ways (next δ v k q) (next_past δ v k q h) y
     ])
-
-and_true : (b : Bool) → (b && true) ≡ b
-and_true true = refl
-and_true false = refl
-
-and_false : (b : Bool) → (b && false) ≡ false
-and_false true = refl
-and_false false = refl
-
-pub or_false : (b : Bool) → (b || false) ≡ b
-or_false true = refl
-or_false false = refl
 
 -- the numbers below a bound that pass a test, one more
 pub one_more : (t : ℕ → Bool) (p j : ℕ) (b : Bool) → t p ≡ b → ((ltb j p && t j) || (b && eqb j p)) ≡ (ltb j (p + 1) && t j)
@@ -99,12 +84,12 @@ one_more t p j b e =
     elim (cases_order j p) [
       | inl x ↦
           ap₂ ◌||◌ (ap (λ c. c && t j) (le-ltb j p (omega arith))) (ap₂ ◌&&◌ (sym e ∙ ap t (sym x)) (eq-eqb j p x))
-          ∙ (and_true (t j) ∙ sym (ap (λ c. c && t j) (lt-ltb j (p + 1) (omega arith))))
+          ∙ (and-true (t j) ∙ sym (ap (λ c. c && t j) (lt-ltb j (p + 1) (omega arith))))
       | inr (inl x) ↦
-          ap₂ ◌||◌ (ap (λ c. c && t j) (lt-ltb j p x)) (ap (λ c. b && c) (ne_eqb j p (λ z. omega arith)) ∙ and_false b)
-          ∙ (or_false (t j) ∙ sym (ap (λ c. c && t j) (lt-ltb j (p + 1) (omega arith))))
+          ap₂ ◌||◌ (ap (λ c. c && t j) (lt-ltb j p x)) (ap (λ c. b && c) (ne_eqb j p (λ z. omega arith)) ∙ and-false b)
+          ∙ (or-false (t j) ∙ sym (ap (λ c. c && t j) (lt-ltb j (p + 1) (omega arith))))
       | inr (inr x) ↦
-          ap₂ ◌||◌ (ap (λ c. c && t j) (le-ltb j p (omega arith))) (ap (λ c. b && c) (ne_eqb j p (λ z. omega arith)) ∙ and_false b)
+          ap₂ ◌||◌ (ap (λ c. c && t j) (le-ltb j p (omega arith))) (ap (λ c. b && c) (ne_eqb j p (λ z. omega arith)) ∙ and-false b)
           ∙ sym (ap (λ c. c && t j) (le-ltb j (p + 1) (omega arith)))
     ]
 

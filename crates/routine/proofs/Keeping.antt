@@ -1,17 +1,15 @@
 -- What rows say of the program that is kept.
 use Rattle.std.proofs.Common.{◌≡◌, ℕ, ◌≤◌, Bool, true, false, ◌<◌, Some, None, MatchOption, Option, sym, arith}
 use mathlib.Core.Option.{none}
-use Rattle.std.proofs.lemmas.Bool.{both_ways}
-use Rattle.locks.specs.Meaning.{any_below}
+use Rattle.std.proofs.lemmas.Bool.{both_ways, false_from_ne_true}
 use Rattle.golog.specs.Programs.{Prog, Valuation}
 use Rattle.golog.specs.Points.{points, next}
 use Rattle.golog.specs.Search.{lowest}
 use Rattle.golog.proofs.Bridge.{next_in}
-use Rattle.golog.proofs.Searches.{none_of, any_found, lowest_some}
+use Rattle.golog.proofs.Searches.{none_of, lowest_some}
 use Rattle.routine.specs.Kept.{kept_prog}
 use Rattle.routine.specs.Found.{NoneBelow, found}
 use Rattle.routine.specs.declared.tables.Tables.{Tables}
-use Rattle.routine.proofs.Going.{false_from}
 use Rattle.routine.proofs.Tabled.{few_points}
 use Rattle.routine.proofs.FoundWays.{lowest_is}
 
@@ -21,10 +19,7 @@ kept_few (Some t) = few_points t
 
 -- no point past the last comes next
 pub next_far : (δ : Prog) (v : Valuation) (p q : ℕ) → points δ ≤ q → next δ v p q ≡ false
-next_far δ v p q h = false_from (next δ v p q) (λ e. let l = next_in δ v p q e in omega arith)
-
-pub none_any : (n : ℕ) (t : ℕ → Bool) → NoneBelow n t → any_below n t ≡ false
-none_any n t h = false_from (any_below n t) (λ e. let (k, l, x) = any_found n t e in both_ways (t k) (h k l) x)
+next_far δ v p q h = false_from_ne_true (next δ v p q) (λ e. let l = next_in δ v p q e in omega arith)
 
 pub none_lowest : (n : ℕ) (t : ℕ → Bool) → NoneBelow n t → lowest n t ≡ none
 none_lowest n t h = none_of (lowest n t) (λ k e. let (l, x, _) = lowest_some n t k e in both_ways (t k) (h k l) x)

@@ -1,15 +1,12 @@
 -- Rows of a program, from rows of its parts.
-use Rattle.std.proofs.Common.{◌≡◌, ℕ, zero, suc, ◌+◌, ◌-◌, ◌<◌, ◌≤◌, min, Bool, true, false, ◌&&◌, ◌||◌, eqb, leb, List, length, get_or, sym, refl, ap, ◌∙◌, ap₂, inl, inr, arith, length-append}
-use Rattle.std.proofs.lemmas.List.{get_or_read}
+use Rattle.std.proofs.Common.{◌≡◌, ℕ, zero, suc, ◌+◌, ◌-◌, ◌<◌, ◌≤◌, min, Bool, true, false, ◌&&◌, ◌||◌, eqb, leb, sym, refl, ap, ◌∙◌, ap₂, inl, inr, arith, length-append}
 use Rattle.std.proofs.lemmas.Bool.{cases_lt, le-leb, lt-leb, ne_eqb}
 use Rattle.golog.specs.Programs.{Cond, Prog, Valuation, eval, Final}
 use Rattle.golog.specs.Programs.Prog.{act, test, seq, alt, star}
-use Rattle.golog.specs.Points.{act_words, words, points, rem, next}
+use Rattle.golog.specs.Points.{act_words, words, rem, next}
 use Rattle.golog.proofs.Bridge.{rem_in_first, rem_in_second, rem_in_left, rem_in_right}
-use Rattle.tree.specs.declared.tree.Tree.{Tree}
-use Rattle.tree.specs.Held.{prog_at}
 use Rattle.routine.specs.Sets.{room, has, Holds, moved, no_points}
-use Rattle.routine.specs.Rows.{IsRow, IsStart, Starts, counted, no_start}
+use Rattle.routine.specs.Rows.{IsRow, IsStart, counted}
 use Rattle.routine.specs.declared.row.Row.{Row}
 use Rattle.routine.specs.declared.row.Start.{Start}
 use Rattle.routine.specs.declared.set.PointSet.{PointSet}
@@ -132,12 +129,3 @@ module _ (p q : Prog) (v : Valuation) (i n : ℕ) (low : i < room) (count : n �
             ∙ (moved_same p n a.next (next q v (suc (i - n))) count x j m
             ∙ (ap (λ z. moved (words p) (next q v (suc z)) j) d ∙ sym (alt_next_right p q v j i k))),
       )
-
--- the count of a beginning is whole where the words are few
-pub start_count :
-    (t : Tree) (v : Valuation) (ss : List Start) (i : ℕ) (s : Start) → Starts t v ss → length ss ≡ i + 1 → s ≡ get_or ss i s → words (prog_at t i) ≤ 63 →
-    s.words + 1 ≡ points (prog_at t i)
-start_count t v ss i s known e f few =
-    let g = get_or_read ss i s (omega arith) f no_start in
-    let h : s.words ≡ counted (prog_at t i) = ap (λ x. x.words) g ∙ (known i (omega arith)).0 in
-    omega arith

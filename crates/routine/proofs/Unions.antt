@@ -6,7 +6,7 @@ use Rattle.golog.specs.Programs.{Prog}
 use Rattle.golog.specs.Points.{points, word, next, valuation, together, go_on_together, two_ways_at}
 use Rattle.golog.proofs.Bridge.{next_in}
 use Rattle.golog.proofs.Searches.{any_found}
-use Rattle.routine.proofs.Going.{or_false}
+use Rattle.std.proofs.Math.Bool.{or-false}
 
 or_swapped : (x y : Bool) → (x || y) ≡ (y || x)
 or_swapped true true = refl
@@ -23,7 +23,7 @@ module _ (a b : ℕ → Bool) (n : ℕ) (x : Bool) (old : x ≡ any_below n (λ 
   joined_more y e f = any_with (λ k. a k && b k) n x y old (f ∙ sym (ap (λ c. c && b n) e))
 
   pub left_out : a n ≡ false → x ≡ any_below (n + 1) (λ k. a k && b k)
-  left_out e = sym (or_false x) ∙ any_with (λ k. a k && b k) n x false old (sym (ap (λ c. c && b n) e))
+  left_out e = sym (or-false x) ∙ any_with (λ k. a k && b k) n x false old (sym (ap (λ c. c && b n) e))
 
 and_moved : (a l e : Bool) → (a ≡ true → l ≡ true) → (a && (l && e)) ≡ (e && a)
 and_moved true true true h = refl

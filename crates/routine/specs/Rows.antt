@@ -1,5 +1,5 @@
 -- What holds at one point under one valuation, and at the beginning of each entry of a tree.
-use Rattle.std.specs.Prelude.{◌≡◌, ℕ, ◌<◌, min, false, List, length, get_or, slice_index_or}
+use Rattle.std.specs.Prelude.{◌≡◌, ℕ, ◌<◌, min, false, List, length, slice_index_or}
 use Rattle.golog.specs.Programs.{Valuation, Prog, Final}
 use Rattle.golog.specs.Points.{words, rem, next}
 use Rattle.tree.specs.declared.tree.Tree.{Tree}
@@ -23,9 +23,6 @@ IsStart δ v s = (s.words ≡ counted δ) × IsRow δ v 0 s.row
 abbrev pub no_start : Start
 no_start = record { words = 0; row = record { stop = false; next = no_points } }
 
--- the counts of the entries of a tree, and their beginnings
-abbrev pub Counts : Tree → List Start → Type 0
-Counts t ss = (i : ℕ) → i < length ss → (get_or ss i no_start).words ≡ counted (prog_at t i)
-
+-- the beginnings of the entries of a tree
 abbrev pub Starts : Tree → Valuation → List Start → Type 0
 Starts t v ss = (i : ℕ) → i < length ss → IsStart (prog_at t i) v (slice_index_or ss i no_start)

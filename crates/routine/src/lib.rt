@@ -1,11 +1,9 @@
 // Routines: a program's points, which may stop, which come next, and that it has one way.
 #![tactic(auto)]
 
-mod after;
 mod condition;
 mod entry;
 pub mod fault;
-mod filling;
 pub mod routine;
 mod row;
 mod set;

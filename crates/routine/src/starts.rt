@@ -1,6 +1,8 @@
-ghost use Rattle.std.specs.Prelude.{◌≡◌, ◌+◌, ◌<◌, ◌≤◌, min, length, IfOk};
-ghost use Rattle.golog.specs.Points.{valuation as valued};
-ghost use Rattle.tree.specs.Held.{prog_at};
+ghost use Rattle.std.specs.Prelude.{◌≡◌, true, ◌+◌, ◌<◌, ◌≤◌, min, length, slice_index_or, IfOk};
+ghost use Rattle.golog.specs.Points.{points, valuation as valued};
+ghost use Rattle.tree.specs.Trees.{prog_lower};
+ghost use Rattle.tree.specs.Held.{clauses, nodes, prog_at};
+ghost use Rattle.text.specs.Parse.{parsed_tree, parsed_prog};
 ghost use Rattle.routine.specs.Rows.{IsStart, Starts};
 
 use crate::condition::value;
@@ -8,11 +10,25 @@ use crate::entry::node_at;
 use crate::row::{Row, Start};
 use crate::set::PointSet;
 use std::alloc::{AllocError, Global};
+use text::parsed::Parsed;
 use tree::node::Node;
 use tree::tree::Tree;
 
+mod after;
+mod filling;
+
 // The most act words that are counted.
 const ROOM: u8 = 64;
+
+// How a program and its parts begin under a valuation: the entries of its tree, up to its own.
+#[derive(Drop)]
+pub(crate) struct Beginnings<'a> {
+    program: &'a Parsed,
+    valuation: u32,
+    starts: Vec<Start>,
+    ghost known: { Starts (parsed_tree program.now) (valued valuation) starts.items },
+    ghost whole: { length starts.items ≡ program.now.root + 1 },
+}
 
 fn sum(a: u8, b: u8) -> u8
     requires { (a ≤ 64) × (b ≤ 64) }
@@ -71,18 +87,48 @@ fn start(tree: &Tree, starts: &[Start], i: u16, valuation: u32) -> Start
     }
 }
 
-// The beginnings of the entries up to the root.
-pub(crate) fn starts(
-    heap: Global,
-    tree: &Tree,
-    root: u16,
-    valuation: u32,
-) -> Result<Vec<Start>, AllocError>
-    ensures { IfOk result (λ s. Starts tree.now (valued valuation) s.items × (length s.items ≡ root + 1)) }
-{
-    let mut starts = Vec::new(heap);
-    for i in 0..=root {
-        starts.push(start(tree, starts.as_slice(), i, valuation))?;
+impl Beginnings<'_> {
+    pub(crate) fn new<'a>(
+        heap: Global,
+        program: &'a Parsed,
+        valuation: u32,
+    ) -> Result<Beginnings<'a>, AllocError>
+        ensures { IfOk result (λ b. (b.program.now ≡ program.now) × (b.valuation ≡ valuation)) }
+    {
+        let tree = program.tree();
+        let mut starts = Vec::new(heap);
+        // A loop and no chain: each push may fail, and looks at those before.
+        for i in 0..=program.root() {
+            starts.push(start(tree, starts.as_slice(), i, valuation))?;
+        }
+        Ok(Beginnings {
+            program,
+            valuation,
+            starts,
+        })
     }
-    Ok(starts)
+
+    // How many points the program has.
+    fn points(&self) -> u8
+        ensures is { result ≡ points (parsed_prog self.now.program.now) }
+        ensures few { result ≤ 64 }
+    {
+        self.start(self.program.root()).words + 1
+    }
+
+    // How an entry begins.
+    fn start(&self, i: u16) -> Start
+        requires within { i < length self.now.starts.items }
+        ensures { IsStart (prog_at (parsed_tree self.now.program.now) i) (valued self.now.valuation) result }
+    {
+        self.starts[i as usize]
+    }
+
+    // The entry of the program's tree with the number.
+    fn node(&self, i: u16) -> Node
+        ensures is { result ≡ slice_index_or (nodes (parsed_tree self.now.program.now)) i (Node.Act 0) }
+        ensures lower { prog_lower (length (clauses (parsed_tree self.now.program.now))) i result ≡ true }
+    {
+        node_at(self.program.tree(), i)
+    }
 }

@@ -9,11 +9,12 @@ ghost use Rattle.routine.specs.Rows.{IsRow};
 ghost use Rattle.routine.specs.Routines.{routine_prog, next_by, leads_to, StepsAt};
 
 use super::Routine;
-use crate::after::NO_ACT;
 use crate::row::Row;
 use crate::set::PointSet;
+use crate::tables::NO_ACT;
 use tree::tree::Tree;
 
+// A question is asked of any point under any valuation, and neither is made from the other: so they are two numbers, and no type of their own.
 impl Routine {
     // The row of a point; `nil` may stop at its only point.
     fn row(&self, point: u32, valuation: u32) -> Row

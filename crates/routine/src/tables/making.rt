@@ -1,35 +1,47 @@
-ghost use Rattle.std.specs.Prelude.{◌≡◌, ◌≤◌, true, IfOk};
-ghost use Rattle.golog.specs.Programs.{names_below};
-ghost use Rattle.golog.specs.Points.{words};
-ghost use Rattle.tree.specs.Held.{prog_at};
-ghost use Rattle.routine.specs.Kept.{tables_prog};
+ghost use Rattle.std.specs.Prelude.{◌≡◌, ◌*◌, ◌^◌, length, IfOk};
+ghost use Rattle.golog.specs.Points.{points};
+ghost use Rattle.text.specs.Parse.{parsed_prog};
+ghost use Rattle.routine.specs.Tables.{RowsOf, GoingOf};
 
 use super::Tables;
-use crate::filling::{acts, all_going, all_rows};
-use crate::starts::starts;
+use crate::row::Row;
+use crate::set::PointSet;
+use crate::starts::Beginnings;
 use locks::facts::FactCount;
 use std::alloc::{AllocError, Global};
-use tree::tree::Tree;
+use text::parsed::Parsed;
+
+// The rows of all points, and the points that go on, under all valuations of so many facts.
+fn filled(
+    heap: Global,
+    program: &Parsed,
+    facts: FactCount,
+) -> Result<(Vec<Row>, Vec<PointSet>), AllocError>
+    ensures rows { IfOk result (λ t. RowsOf (parsed_prog program.now) t.0.items) }
+    ensures wide { IfOk result (λ t. length t.0.items ≡ 2 ^ facts * points (parsed_prog program.now)) }
+    ensures going { IfOk result (λ t. GoingOf (parsed_prog program.now) t.1.items) }
+    ensures long { IfOk result (λ t. length t.1.items ≡ 2 ^ facts) }
+{
+    let mut rows = Vec::new(heap);
+    let mut going = Vec::new(heap);
+    // A loop and no chain: each push may fail.
+    for valuation in 0..facts.valuations() {
+        let beginnings = Beginnings::new(heap, program, valuation)?;
+        going.push(beginnings.push_rows(&mut rows)?)?;
+    }
+    Ok((rows, going))
+}
 
 impl Tables {
-    pub(crate) fn new(
-        heap: Global,
-        tree: Tree,
-        root: u16,
-        facts: FactCount,
-    ) -> Result<Tables, AllocError>
-        requires short { words (prog_at tree root) ≤ 63 }
-        requires named { names_below facts (prog_at tree root) ≡ true }
-        ensures { IfOk result (λ t. (tables_prog t ≡ prog_at tree root) × (t.facts ≡ facts)) }
+    // The tables of a program of so many facts.
+    pub(crate) fn new(heap: Global, program: Parsed, facts: FactCount) -> Result<Tables, AllocError>
+        requires { facts ≡ program.facts }
+        ensures { IfOk result (λ t. t.program ≡ program) }
     {
-        let starts = starts(heap, &tree, root, 0)?;
-        let count = starts[root as usize].words + 1;
-        let acts = acts(heap, &tree, starts.as_slice(), root, count)?;
-        let rows = all_rows(heap, &tree, root, count, facts)?;
-        let going = all_going(heap, rows.as_slice(), count, facts)?;
+        let acts = Beginnings::new(heap, &program, 0)?.acts(heap)?;
+        let (rows, going) = filled(heap, &program, facts)?;
         Ok(Tables {
-            tree,
-            root,
+            program,
             facts,
             acts,
             rows,

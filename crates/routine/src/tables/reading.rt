@@ -1,10 +1,10 @@
 ghost use Rattle.std.specs.Prelude.{◌≡◌, ◌<◌, ◌≤◌};
 ghost use Rattle.golog.specs.Points.{points, word, valuation as valued};
 ghost use Rattle.routine.specs.Rows.{IsRow};
+ghost use Rattle.text.specs.Parse.{parsed_tree};
 ghost use Rattle.routine.specs.Kept.{tables_prog};
 
-use super::Tables;
-use crate::after::NO_ACT;
+use super::{NO_ACT, Tables};
 use crate::row::Row;
 use crate::set::PointSet;
 use tree::tree::Tree;
@@ -43,10 +43,10 @@ impl Tables {
         }
     }
 
-    // The program in its tables, and its entry.
+    // The tree of the program, and its entry.
     pub(crate) fn tree(&self) -> (&Tree, u16)
-        ensures { (result.0.now ≡ self.now.tree) × (result.1 ≡ self.now.root) }
+        ensures { (result.0.now ≡ parsed_tree self.now.program) × (result.1 ≡ self.now.program.root) }
     {
-        (&self.tree, self.root)
+        (self.program.tree(), self.program.root())
     }
 }

@@ -43,10 +43,9 @@ impl Tables {
         ensures { Holds result (go_on_together self.now.facts (tables_prog self.now) first) }
     {
         let mut set = PointSet::EMPTY;
-        for valuation in 0..self.facts.valuations() {
-            let going = self.going[valuation as usize];
+        for going in &self.going {
             if going.contains(first) {
-                set = set.union(going);
+                set = set.union(*going);
             }
         }
         set

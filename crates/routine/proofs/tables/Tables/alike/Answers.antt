@@ -3,7 +3,8 @@ use Rattle.std.proofs.lemmas.Bool.{eq-eqb, ne_eqb}
 use Rattle.golog.specs.Points.{word}
 use Rattle.routine.specs.Sets.{has}
 use Rattle.routine.specs.Kept.{tables_prog}
-use Rattle.routine.proofs.Going.{one_more, or_false}
+use Rattle.routine.proofs.Going.{one_more}
+use Rattle.std.proofs.Math.Bool.{or-false}
 use Rattle.routine.proofs.tables.Tables.alike.Goals as goal
 use Rattle.routine.proofs.tables.Tables.alike.Goals.{then-act-word, else-act-word}
 
@@ -21,5 +22,5 @@ loop-k-preserved c j h =
           ∙ (ap₂ ◌||◌ old (w.single.ensures j h) ∙ one_more t k j true (sym same ∙ eq-eqb c.word-act.result c.word.result w.if-act-word.true)))
       | else-act-word w ↦
           ap (λ s. has s j) w.set-is
-          ∙ (old ∙ (sym (or_false (ltb j k && t j)) ∙ one_more t k j false (sym same ∙ ne_eqb c.word-act.result c.word.result w.if-act-word.false)))
+          ∙ (old ∙ (sym (or-false (ltb j k && t j)) ∙ one_more t k j false (sym same ∙ ne_eqb c.word-act.result c.word.result w.if-act-word.false)))
     ]

@@ -5,6 +5,6 @@ use Rattle.routine.specs.Sets.{Holds}
 use Rattle.routine.specs.Kept.{tables_prog}
 use Rattle.routine.proofs.tables.Tables.go_on_together.Given as goal
 
-abbrev pub invariant-loop-valuation : goal.invariant-loop-valuation
-invariant-loop-valuation l =
-    Holds l.set (λ r. any_below l.valuation (λ n. goes_on (tables_prog l.self) (valuation n) l.first && goes_on (tables_prog l.self) (valuation n) r))
+abbrev pub invariant-loop-going : goal.invariant-loop-going
+invariant-loop-going l =
+    Holds l.set (λ r. any_below l.going-index (λ n. goes_on (tables_prog l.self) (valuation n) l.first && goes_on (tables_prog l.self) (valuation n) r))

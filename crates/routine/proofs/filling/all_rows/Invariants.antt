@@ -1,7 +1,0 @@
-use Rattle.std.proofs.Common.{◌≡◌, ◌*◌, length, vec_items}
-use Rattle.tree.specs.Held.{prog_at}
-use Rattle.routine.specs.Tables.{RowsOf}
-use Rattle.routine.proofs.filling.all_rows.Given as goal
-
-abbrev pub invariant-loop-valuation : goal.invariant-loop-valuation
-invariant-loop-valuation l = RowsOf (prog_at l.tree l.root) (vec_items l.rows) × (length (vec_items l.rows) ≡ l.valuation * l.count)
