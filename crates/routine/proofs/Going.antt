@@ -79,7 +79,7 @@ goes_on_past δ v k h =
     ])
 
 -- the numbers below a bound that pass a test, one more
-pub one_more : (t : ℕ → Bool) (p j : ℕ) (b : Bool) → t p ≡ b → ((ltb j p && t j) || (b && eqb j p)) ≡ (ltb j (p + 1) && t j)
+one_more : (t : ℕ → Bool) (p j : ℕ) (b : Bool) → t p ≡ b → ((ltb j p && t j) || (b && eqb j p)) ≡ (ltb j (p + 1) && t j)
 one_more t p j b e =
     elim (cases_order j p) [
       | inl x ↦
@@ -92,6 +92,13 @@ one_more t p j b e =
           ap₂ ◌||◌ (ap (λ c. c && t j) (le-ltb j p (omega arith))) (ap (λ c. b && c) (ne_eqb j p (λ z. omega arith)) ∙ and-false b)
           ∙ sym (ap (λ c. c && t j) (le-ltb j (p + 1) (omega arith)))
     ]
+
+module _ (t : ℕ → Bool) (p j : ℕ) (x : Bool) (old : x ≡ (ltb j p && t j)) where
+  pub taken_in : (y : Bool) → t p ≡ true → y ≡ eqb j p → (x || y) ≡ (ltb j (p + 1) && t j)
+  taken_in y e f = ap₂ ◌||◌ old f ∙ one_more t p j true e
+
+  pub passed_over : t p ≡ false → x ≡ (ltb j (p + 1) && t j)
+  passed_over e = old ∙ (sym (or-false (ltb j p && t j)) ∙ one_more t p j false e)
 
 pub all_below_room : (t : ℕ → Bool) (n j : ℕ) → (n ≤ j → t j ≡ false) → (ltb j n && t j) ≡ t j
 all_below_room t n j h =

@@ -6,16 +6,10 @@ use Rattle.golog.specs.Programs.{Prog}
 use Rattle.golog.specs.Points.{points, word, next, valuation, together, go_on_together, two_ways_at}
 use Rattle.golog.proofs.Bridge.{next_in}
 use Rattle.golog.proofs.Searches.{any_found}
-use Rattle.std.proofs.Math.Bool.{or-false}
-
-or_swapped : (x y : Bool) → (x || y) ≡ (y || x)
-or_swapped true true = refl
-or_swapped true false = refl
-or_swapped false true = refl
-or_swapped false false = refl
+use Rattle.std.proofs.Math.Bool.{or-false, or_comm}
 
 any_with : (t : ℕ → Bool) (n : ℕ) (x y : Bool) → x ≡ any_below n t → y ≡ t n → (x || y) ≡ any_below (n + 1) t
-any_with t n x y e f = ap₂ ◌||◌ e f ∙ (or_swapped (any_below n t) (t n) ∙ sym (ap (λ k. any_below k t) (add-one n)))
+any_with t n x y e f = ap₂ ◌||◌ e f ∙ (or_comm (any_below n t) (t n) ∙ sym (ap (λ k. any_below k t) (add-one n)))
 
 -- a set that is joined, or is not, since the first test holds, or fails
 module _ (a b : ℕ → Bool) (n : ℕ) (x : Bool) (old : x ≡ any_below n (λ k. a k && b k)) where

@@ -6,11 +6,8 @@ use Rattle.routine.specs.Kept.{kept_prog}
 use Rattle.routine.proofs.Keeping.{kept_few, next_far}
 use Rattle.routine.proofs.routine.Routine.comes_next.Goals as goal
 
-pub returns-then-to-lt64 : goal.returns-then-to-lt64
-returns-then-to-lt64 c = record {
-  is = c.contains.ensures ∙ c.row.ensures.1 c.args.to c.if-to-lt64.true;
-  steps = bridge (kept_prog c.args.self.now.tables) (valuation c.args.valuation) c.args.from;
-}
+pub returns-then-to-lt64-clause-steps : goal.returns-then-to-lt64-clause-steps
+returns-then-to-lt64-clause-steps c = bridge (kept_prog c.args.self.now.tables) (valuation c.args.valuation) c.args.from
 
 pub returns-else-to-lt64 : goal.returns-else-to-lt64
 returns-else-to-lt64 c = record {

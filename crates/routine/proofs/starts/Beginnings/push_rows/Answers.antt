@@ -1,12 +1,11 @@
-use Rattle.std.proofs.Common.{◌≡◌, ℕ, Bool, true, false, ◌&&◌, ◌||◌, ltb, length, vec_items, sym, ap, ◌∙◌, ap₂, subst, arith}
+use Rattle.std.proofs.Common.{◌≡◌, ℕ, Bool, length, vec_items, sym, ap, ◌∙◌, subst, arith}
 use Rattle.std.proofs.lemmas.List.{length_push}
 use Rattle.golog.specs.Points.{goes_on, valuation}
 use Rattle.text.specs.Parse.{parsed_prog}
 use Rattle.routine.specs.Sets.{has}
 use Rattle.routine.specs.Tables.{RowsOf}
 use Rattle.routine.proofs.Filled.{rows_push}
-use Rattle.routine.proofs.Going.{one_more, all_below_room, goes_on_past, row_goes_on}
-use Rattle.std.proofs.Math.Bool.{or-false}
+use Rattle.routine.proofs.Going.{taken_in, passed_over, all_below_room, goes_on_past, row_goes_on}
 use Rattle.routine.proofs.starts.Beginnings.push_rows.Goals as goal
 use Rattle.routine.proofs.starts.Beginnings.push_rows.Goals.{then-goes_on, else-goes_on}
 
@@ -22,13 +21,14 @@ loop-point-preserved c =
       subst (RowsOf δ) (sym e) (rows_push δ old c.row-row.result v p c.loop-point.invariant.0 c.loop-point.invariant.1 (omega arith) c.row-row.ensures),
       ap length e ∙ (length_push old c.row-row.result ∙ omega (arith, c.loop-point.invariant.1)),
       λ j h.
+          let x = has c.loop-point.going j in
           elim c.if-goes_on.branch [
             | then-goes_on w ↦
                 ap (λ s. has s j) w.going-is
-                ∙ (w.union-going.ensures j h ∙ (ap₂ ◌||◌ (c.loop-point.invariant.2 j h) (w.single.ensures j h) ∙ one_more t p j true (sym on ∙ w.if-goes_on.true)))
+                ∙ (w.union-going.ensures j h
+                ∙ taken_in t p j x (c.loop-point.invariant.2 j h) (has w.single.result j) (sym on ∙ w.if-goes_on.true) (w.single.ensures j h))
             | else-goes_on w ↦
-                ap (λ s. has s j) w.going-is
-                ∙ (c.loop-point.invariant.2 j h ∙ (sym (or-false (ltb j p && t j)) ∙ one_more t p j false (sym on ∙ w.if-goes_on.false)))
+                ap (λ s. has s j) w.going-is ∙ passed_over t p j x (c.loop-point.invariant.2 j h) (sym on ∙ w.if-goes_on.false)
           ],
     )
 

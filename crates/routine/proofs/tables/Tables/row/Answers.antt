@@ -1,13 +1,8 @@
 use Rattle.std.proofs.Common.{◌≡◌, ◌∙◌, arith}
 use Rattle.golog.specs.Points.{points, valuation}
 use Rattle.routine.specs.Kept.{tables_prog}
-use Rattle.routine.proofs.Tabled.{acts_len, row_place, row_found, row_none}
+use Rattle.routine.proofs.Tabled.{acts_len, row_found, row_none}
 use Rattle.routine.proofs.tables.Tables.row.Goals as goal
-
-pub index-requires : goal.index-requires
-index-requires c =
-    row_place c.args.self.now c.args.valuation c.args.point c.valuations.result c.len-count.result c.valuations.ensures.is
-    (c.len-count.ensures ∙ acts_len c.args.self.now) c.if-point-count.true
 
 pub returns-then-point-count : goal.returns-then-point-count
 returns-then-point-count c =
