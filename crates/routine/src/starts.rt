@@ -87,8 +87,9 @@ fn start(tree: &Tree, starts: &[Start], i: u16, valuation: u32) -> Start
     }
 }
 
-impl Beginnings<'_> {
-    pub(crate) fn new<'a>(
+impl<'a> Beginnings<'a> {
+    // The beginnings under a valuation, from the lowest entry up.
+    pub(crate) fn new(
         heap: Global,
         program: &'a Parsed,
         valuation: u32,
@@ -97,7 +98,7 @@ impl Beginnings<'_> {
     {
         let tree = program.tree();
         let mut starts = Vec::new(heap);
-        // A loop and no chain: each push may fail, and looks at those before.
+        // A loop and no chain: each push may fail, and each beginning is made from those before.
         for i in 0..=program.root() {
             starts.push(start(tree, starts.as_slice(), i, valuation))?;
         }

@@ -14,6 +14,7 @@ impl Tables {
     {
         let act = self.word(point as u32);
         let mut set = PointSet::EMPTY;
+        // A loop and no fold: its closure would take the set and hand it back, for one test and one union.
         for k in 0..self.points() {
             if act == self.word(k as u32) {
                 set = set.union(PointSet::single(k));
@@ -28,6 +29,7 @@ impl Tables {
         ensures { Holds result (together self.now.facts (tables_prog self.now) from first) }
     {
         let mut set = PointSet::EMPTY;
+        // A loop and no fold, as above.
         for valuation in 0..self.facts.valuations() {
             let next = self.row(from as u32, valuation).next;
             if next.contains(first) {
