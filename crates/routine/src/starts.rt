@@ -1,8 +1,9 @@
-ghost use Rattle.std.specs.Prelude.{◌≡◌, true, ◌+◌, ◌<◌, ◌≤◌, min, length, slice_index_or, IfOk};
+ghost use Rattle.std.specs.Prelude.{◌≡◌, true, ◌+◌, ◌<◌, ◌≤◌, ◌&&◌, ◌||◌, min, length, slice_index_or, IfOk};
 ghost use Rattle.golog.specs.Points.{points, valuation as valued};
 ghost use Rattle.tree.specs.Trees.{prog_lower};
 ghost use Rattle.tree.specs.Held.{clauses, nodes, prog_at};
 ghost use Rattle.text.specs.Parse.{parsed_tree, parsed_prog};
+ghost use Rattle.routine.specs.Sets.{has, Holds, moved};
 ghost use Rattle.routine.specs.Rows.{IsStart, Starts};
 
 use crate::condition::value;
@@ -30,11 +31,32 @@ pub(crate) struct Beginnings<'a> {
     ghost whole: { length starts.items ≡ program.now.root + 1 },
 }
 
-fn sum(a: u8, b: u8) -> u8
-    requires { (a ≤ 64) × (b ≤ 64) }
-    ensures { result ≡ min 64 (a + b) }
-{
-    (a + b).min(ROOM)
+impl Start {
+    // One after the other.
+    fn then(self, second: Start) -> Start
+        requires few { (self.words ≤ 64) × (second.words ≤ 64) }
+        ensures words { result.words ≡ min 64 (self.words + second.words) }
+        ensures stop { result.row.stop ≡ (self.row.stop && second.row.stop) }
+        ensures next { Holds result.row.next (λ j. has self.row.next j || (self.row.stop && moved self.words (has second.row.next) j)) }
+    {
+        Start {
+            words: (self.words + second.words).min(ROOM),
+            row: self.row.then(second.row, self.words),
+        }
+    }
+
+    // A choice of the two.
+    fn or(self, second: Start) -> Start
+        requires few { (self.words ≤ 64) × (second.words ≤ 64) }
+        ensures words { result.words ≡ min 64 (self.words + second.words) }
+        ensures stop { result.row.stop ≡ (self.row.stop || second.row.stop) }
+        ensures next { Holds result.row.next (λ j. has self.row.next j || moved self.words (has second.row.next) j) }
+    {
+        Start {
+            words: (self.words + second.words).min(ROOM),
+            row: self.row.or(second.row, self.words),
+        }
+    }
 }
 
 // The beginning of the entry whose parts begin as the list says.
@@ -58,22 +80,8 @@ fn start(tree: &Tree, starts: &[Start], i: u16, valuation: u32) -> Start
                 next: PointSet::EMPTY,
             },
         },
-        Node::Seq(a, b) => {
-            let first = starts[a as usize];
-            let second = starts[b as usize];
-            Start {
-                words: sum(first.words, second.words),
-                row: first.row.then(second.row, first.words),
-            }
-        }
-        Node::Alt(a, b) => {
-            let first = starts[a as usize];
-            let second = starts[b as usize];
-            Start {
-                words: sum(first.words, second.words),
-                row: first.row.or(second.row, first.words),
-            }
-        }
+        Node::Seq(a, b) => starts[a as usize].then(starts[b as usize]),
+        Node::Alt(a, b) => starts[a as usize].or(starts[b as usize]),
         Node::Star(a) => {
             let again = starts[a as usize];
             Start {

@@ -29,7 +29,7 @@ returns-in-Seq c =
     let v = valuation c.args.valuation in
     start_is t c.args.i v _ c.in-Seq.ensures.is _
     (start_seq (prog_at t c.in-Seq.a) (prog_at t c.in-Seq.b) v (get_or c.args.starts.now c.in-Seq.a no_start) (get_or c.args.starts.now c.in-Seq.b no_start)
-    (c.requires.known c.in-Seq.a (search rules)) (c.requires.known c.in-Seq.b (search rules)) c.sum.result c.then.result c.sum.ensures c.then.ensures.stop c.then.ensures.next)
+    (c.requires.known c.in-Seq.a (search rules)) (c.requires.known c.in-Seq.b (search rules)) c.then.result.words c.then.result.row c.then.ensures.words c.then.ensures.stop c.then.ensures.next)
 
 pub returns-in-Alt : goal.returns-in-Alt
 returns-in-Alt c =
@@ -37,4 +37,4 @@ returns-in-Alt c =
     let v = valuation c.args.valuation in
     start_is t c.args.i v _ c.in-Alt.ensures.is _
     (start_alt (prog_at t c.in-Alt.a) (prog_at t c.in-Alt.b) v (get_or c.args.starts.now c.in-Alt.a no_start) (get_or c.args.starts.now c.in-Alt.b no_start)
-    (c.requires.known c.in-Alt.a (search rules)) (c.requires.known c.in-Alt.b (search rules)) c.sum-in-Alt.result c.«or».result c.sum-in-Alt.ensures c.«or».ensures.stop c.«or».ensures.next)
+    (c.requires.known c.in-Alt.a (search rules)) (c.requires.known c.in-Alt.b (search rules)) c.«or».result.words c.«or».result.row c.«or».ensures.words c.«or».ensures.stop c.«or».ensures.next)
