@@ -144,7 +144,10 @@ fn try_lengths(rt: &HostRuntime) -> anyhow::Result<()> {
     let heap = rt.alloc();
     for n in [LONGEST, LONGEST + 1] {
         let file = vec![in heap; 0u8; n]?;
-        println!(rt; "{n} bytes of 0: {}", line_of(heap, file.as_slice(), LONGEST)?)?;
+        println!(rt;
+            "{n} bytes of 0: {}",
+            line_of(heap, file.as_slice(), LONGEST)?
+        )?;
     }
     Ok(())
 }

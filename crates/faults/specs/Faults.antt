@@ -8,6 +8,7 @@ use Rattle.model.specs.declared.fault.ModelFault.{ModelFault}
 use Rattle.model.specs.declared.fault.ModelFault.TheVariants.{Record, Field, BadName, SameName, TooOften, Missing, Stuck, Layer, Memory}
 use Rattle.text.specs.Faults as text
 use Rattle.routine.specs.Faults as routine
+use Rattle.faults.specs.declared.fault.telling.Outcome.{Outcome}
 use Rattle.faults.specs.declared.fault.FileFault.{FileFault}
 use Rattle.faults.specs.declared.fault.FileFault.TheVariants.{TooLong, Model, Text, Routine}
 
@@ -94,6 +95,19 @@ fault_place (TooLong most) = most
 fault_place (Model f) = model_place f
 fault_place (Text f) = (text.fault_of f).place
 fault_place (Routine f) = routine.routine_place f
+
+-- what a refusal tells, as one: number, layer and place
+abbrev pub record_outcome : RecordFault → Outcome
+record_outcome f = record { number = record_number f; layer = record_layer; place = record_place f }
+
+abbrev pub layer_outcome : LayerFault → Outcome
+layer_outcome f = record { number = layer_number f; layer = model_layer; place = layer_place f }
+
+abbrev pub model_outcome : ModelFault → Outcome
+model_outcome f = record { number = model_number f; layer = layer_of f; place = model_place f }
+
+abbrev pub fault_outcome : FileFault → Outcome
+fault_outcome f = record { number = fault_number f; layer = fault_layer f; place = fault_place f }
 
 -- the line of a refusal
 abbrev pub line_of : (number layer place : ℕ) → List ℕ

@@ -7,7 +7,7 @@ use routine::fault::RoutineFault;
 use std::alloc::AllocError;
 use text::fault::TextFault;
 
-mod telling;
+pub mod telling;
 mod wording;
 
 // Why a job file is refused.

@@ -65,6 +65,7 @@ pub fn take_in(rt: &HostRuntime, path: Option<&str>) -> io::Result<Vec<u8>>
     }
 }
 
+// A program calls it in its own main: a function that took the work as a closure would have to require that it may be called.
 // The bytes that the program of this name is to work on: of the file that its first argument names, or of standard input.
 // Where the argument asks for help, the usage is printed and there is nothing to work on.
 pub fn asked(rt: &HostRuntime, program: &str, usage: &str) -> Result<Option<Vec<u8>>, Failure>

@@ -96,7 +96,7 @@ impl Kind {
         }
     }
 
-    // Whether a lock of the form with this number may have it.
+    // Whether a lock of the form with this number may have it. Any number may be asked, also one that is no form.
     pub fn of_form(self, form: u8) -> bool
         ensures { result ≡ of_form self form }
     {

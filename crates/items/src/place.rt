@@ -19,6 +19,7 @@ pub fn open(raw: Record<'_>) -> Result<Header, RecordFault>
     Ok(head)
 }
 
+// Form and group are numbers, as a head has the one and records are ordered by the other: enums would ask more of callers.
 // What a later record says, under the form of the file's lock and the group of the record before it.
 pub fn place(form: u8, group: u8, raw: Record<'_>) -> Result<Item<'_>, RecordFault>
     ensures { MatchResult result (λ i. placed form group raw.entry.at raw.entry.kind raw.entry.body.now ≡ Ok (said i)) (λ f. placed form group raw.entry.at raw.entry.kind raw.entry.body.now ≡ Err f) }

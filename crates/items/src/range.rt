@@ -9,7 +9,7 @@ use locks::allowance::MOST_BORNE;
 use locks::lock::{MOST_ACTS, MOST_FACTS, REACTIONS};
 use lowest::listed::MOST_LISTED;
 
-// The offset of the first field that failed its test.
+// The offset of the first field that failed its test. The tests are answers, made before, and no functions to be run.
 fn first_bad(tests: &[(usize, bool)]) -> Option<usize>
     ensures { result ≡ first_bad tests.now }
 {

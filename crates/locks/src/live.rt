@@ -24,6 +24,7 @@ impl<L: Lock + Drop> Live<L> {
     }
 }
 
+// Each method is handed on by hand: an impl that a macro of the repository's own writes is not allowed.
 impl<L: Lock> Lock for Live<L> {
     ghost meaning = { λ l. L.Lock.meaning l.lower };
 

@@ -22,6 +22,7 @@ pub fn reaction_place(act: u8, reaction: u8) -> usize
     usize::from(act) * usize::from(REACTIONS) + usize::from(reaction)
 }
 
+// State, act and reaction are numbers side by side and no struct: each question is asked for every act, or every reaction, in turn.
 // A lock, by its meaning. A question changes nothing; a number out of range gets no.
 pub trait Lock {
     ghost meaning: { Self → Meaning };

@@ -10,6 +10,7 @@ const MARKS: usize = MOST_ACTS as usize * REACTIONS as usize;
 // Which reactions of which acts are marked.
 #[derive(Clone, Copy)]
 pub struct Marks {
+    // Flat, and of fixed length: marks are copied with a layer, and a mark is one look.
     table: [bool; MARKS],
 }
 
@@ -30,7 +31,7 @@ impl Marks {
         act < MOST_ACTS && reaction < REACTIONS && self.table[reaction_place(act, reaction)]
     }
 
-    // Marks the reaction; false, and nothing changed, if it cannot be marked or is already.
+    // Marks the reaction; false, and nothing changed, if it cannot be marked or is already. A bool, as the insert of a set of std's.
     pub fn add(&mut self, act: u8, reaction: u8) -> bool
         ensures answer { result ≡ (markable act reaction && not (marked self.old act reaction)) }
         ensures marks { marks_list self.new ≡ (if result then slice_set (marks_list self.old) (act * reactions + reaction) true else marks_list self.old) }

@@ -32,6 +32,7 @@ pub struct FactLock {
     facts: FactCount,
     acts: u8,
     first: u32,
+    // Two tables and no map: each is asked alone, at every question of the lock, and an answer is one look.
     rules: Vec<Option<Rule>>,
     changes: Vec<Option<Change>>,
     ghost ranges: { (1 ≤ facts) × (facts ≤ 12) × (1 ≤ acts) × (acts ≤ 31) × (first < 2 ^ facts) },

@@ -18,6 +18,7 @@ pub struct ListedLock {
     first: u32,
     states: u32,
     valuations: Vec<u16>,
+    // A table and no map: a move is asked for at every question of the lock, and an answer is one look.
     moves: Vec<Option<u16>>,
     ghost ranges: { (1 ≤ facts) × (facts ≤ 12) × (1 ≤ acts) × (acts ≤ 31) },
     ghost counts: { (1 ≤ states) × (states ≤ 1024) × (first < states) },

@@ -1,1 +1,2 @@
 pub mod Pile
+pub mod PileLaws

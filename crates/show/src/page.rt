@@ -19,6 +19,7 @@ impl Page<'_> {
         Ok(())
     }
 
+    // Facts and acts are named from lists of their own.
     pub(crate) fn fact(self, fact: u8) -> Result<(), Failure> {
         self.name(self.job.facts(), fact)
     }

@@ -69,6 +69,7 @@ impl Page<'_> {
         }
     }
 
+    // Not one function with joined_clauses: recursion through a closure or a trait's method gets no proof.
     #[cycle(joined_nodes_node)]
     fn joined_nodes(
         self,

@@ -52,10 +52,10 @@ fn modelled(heap: Global, file: &[u8]) -> Result<(Model<'_>, Parsed), FileFault>
         rest = taken.rest;
     }
     let model = draft.close(file.len())?;
-    match parsed {
-        Some(parsed) => Ok((model, parsed)),
-        None => Err(FileFault::Model(ModelFault::Missing(file.len()))),
-    }
+    let Some(parsed) = parsed else {
+        return Err(FileFault::Model(ModelFault::Missing(file.len())));
+    };
+    Ok((model, parsed))
 }
 
 impl JobFile {

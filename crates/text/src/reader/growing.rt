@@ -23,6 +23,7 @@ pub(super) fn number(names: &Names, word: &[u8], at: usize) -> Result<u8, TextFa
 }
 
 impl Reader<'_> {
+    // Conditions and programs stand in tables of their own, each with its call.
     // One condition more.
     pub(super) fn clause(&mut self, clause: Clause) -> Result<u16, TextFault>
         ensures { MatchResult result (λ i. BuiltCond self.old self.new (cond_node (cond_at self.old.tree) clause) i) (λ f. f ≡ Memory) }
@@ -37,6 +38,7 @@ impl Reader<'_> {
         Ok(self.tree.add_node(node)?)
     }
 
+    // Numbers of entries and no type that says that the entry is there: it would have to be made anew whenever the table grows.
     // A program behind a test.
     pub(super) fn guarded(&mut self, c: u16, p: u16) -> Result<u16, TextFault>
         requires { p < length (nodes self.old.tree) }

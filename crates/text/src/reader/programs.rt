@@ -90,6 +90,7 @@ impl<'a> Reader<'a> {
         }
     }
 
+    // Not one function with condition: recursion through a closure or a trait's method gets no proof.
     // A choice, and the mark that closes it.
     #[cycle(atom_choice_inside_item_sequence)]
     fn inside(&mut self, level: Level<'_>, mark: Mark) -> Result<u16, TextFault>

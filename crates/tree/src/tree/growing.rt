@@ -75,6 +75,7 @@ impl Tree {
         }
     }
 
+    // The condition, and below the program, of an entry: each table has its own.
     pub fn clause(&self, i: u16) -> Option<Clause>
         ensures { MatchOption result (length (clauses self.now) ≤ i) (λ c. (i < length (clauses self.now)) × (c ≡ slice_index_or (clauses self.now) i Clause.True)) }
     {

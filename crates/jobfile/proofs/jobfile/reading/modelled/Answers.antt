@@ -62,8 +62,8 @@ loop-rest-preserved c =
       (o.0, o.1, ap (λ x. judge o.0 x item new end rest) t.4 ∙ (o.2 ∙ inv.3.2)),
     )
 
-pub returns-in-Some : goal.returns-in-Some
-returns-in-Some c =
+pub returns : goal.returns
+returns c =
     let inv = c.loop-rest.invariant in
     let none : length c.loop-rest.rest.now ≡ 0 = search rules in
     let k = c.in_ok-model.ensures inv.0 inv.1 in
@@ -73,12 +73,12 @@ returns-in-Some c =
     let ends = judge_complete h inv.0 (program_of c.loop-rest.parsed) end inv.3.0 c.loop-rest.rest.now _ inv.3.2 none k.0 in
     (h, inv.0, k.1, facts, ends ∙ ap (λ o. ended_routine h inv.0 end (program_of o)) c.in-Some.is)
 
-pub returns : goal.returns
-returns c =
+pub returns-in_default : goal.returns-in_default
+returns-in_default c =
     let inv = c.loop-rest.invariant in
     let none : length c.loop-rest.rest.now ≡ 0 = search rules in
     let k = c.in_ok-model.ensures inv.0 inv.1 in
     let h = c.loop-rest.draft.head in
     let end = length c.args.file.now in
     let ends = judge_complete h inv.0 (program_of c.loop-rest.parsed) end inv.3.0 c.loop-rest.rest.now _ inv.3.2 none k.0 in
-    inr (ends ∙ ap (λ o. ended_routine h inv.0 end (program_of o)) c.in-None.is)
+    inr (ends ∙ ap (λ o. ended_routine h inv.0 end (program_of o)) c.in_default.is)
