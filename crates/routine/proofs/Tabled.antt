@@ -34,6 +34,9 @@ module _ (t : Tables) where
   pub few_points : points (tables_prog t) ≤ room
   few_points = omega (arith, t.program.few)
 
+  pub tables_named : names_below t.facts (tables_prog t) ≡ true
+  tables_named = subst (λ n. names_below n (tables_prog t) ≡ true) (sym t.every) t.program.of_facts
+
   pub table_rows : RowsOf (tables_prog t) (vec_items t.rows)
   table_rows i h = (t.stops i h, λ j l. t.nexts i j (h, l))
 
@@ -57,5 +60,5 @@ module _ (t : Tables) where
     row_found r e =
         let f = get_or_read_under (vec_items t.rows) ((v % m) * n + k) (vec_len t.rows) r no_row e row_place t.rows.ok.0 in
         let same : Agree t.facts (valuation (v % m)) (valuation v) = λ i h. ap (λ x. valuation (v % x) i) all ∙ has_low v t.facts i h in
-        row_agree t.facts (valuation (v % m)) (valuation v) (tables_prog t) k r same (subst (λ n. names_below n (tables_prog t) ≡ true) (sym t.every) t.program.of_facts)
+        row_agree t.facts (valuation (v % m)) (valuation v) (tables_prog t) k r same tables_named
         (subst (IsRow (tables_prog t) (valuation (v % m)) k) (sym f) (row_of (tables_prog t) (vec_items t.rows) (v % m) n k table_rows count below block))
