@@ -1,7 +1,7 @@
 // Tries the reader on routines for the small lock, and prints the line of each. The file that is named holds the lock, up to its routine.
 #![tactic(auto)]
 
-use intake::{LONGEST, take_in};
+use intake::take_in;
 use jobfile::jobfile::line_of;
 use std::alloc::{AllocError, Global};
 use std::env;
@@ -108,7 +108,7 @@ fn try_texts(rt: &HostRuntime, model: &[u8], texts: &[(&str, Text)]) -> anyhow::
     for (what, text) in texts.iter() {
         let bytes = spelt(heap, text)?;
         let file = file_of(heap, model, bytes.as_slice())?;
-        println!(rt; "{what}: {}", line_of(heap, file.as_slice(), LONGEST)?)?;
+        println!(rt; "{what}: {}", line_of(heap, file.as_slice(), usize::MAX)?)?;
     }
     Ok(())
 }
