@@ -121,6 +121,7 @@ fn edited(heap: Global, good: &[u8], edit: &Edit) -> Result<Vec<u8>, AllocError>
         Edit::Keep => {}
         Edit::Cut(n) => file.truncate(*n),
         Edit::Put(at, bytes) => {
+            // A loop over both and no copy of a slice: what would stand behind the file's end is left out.
             for (place, b) in file.iter_mut().skip(*at).zip(bytes.iter()) {
                 *place = *b;
             }

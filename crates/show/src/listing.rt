@@ -3,6 +3,7 @@ use intake::Failure;
 use locks::lock::{Lock, REACTIONS};
 use words::names::Names;
 
+// Loops and no chains: each line that is printed may fail, and facts, acts and reactions are numbers and no lists.
 impl Page<'_> {
     // How many there are of what, and their names.
     pub(crate) fn names(self, what: &str, names: &Names, count: u8) -> Result<(), Failure> {
@@ -16,31 +17,35 @@ impl Page<'_> {
         Ok(())
     }
 
+    fn has_marks(self) -> bool {
+        let marks = self.job.marks();
+        (0..self.job.lock().acts()).any(|act| (0..REACTIONS).any(|reaction| marks.has(
+            act, reaction,
+        )))
+    }
+
     pub(crate) fn marks(self) -> Result<(), Failure> {
         let (rt, job) = (self.rt, self.job);
         print!(rt; "allowance {}, marked:", job.most())?;
-        let mut any = false;
         for act in 0..job.lock().acts() {
             for reaction in (0..REACTIONS).filter(|reaction| job.marks().has(act, *reaction)) {
-                any = true;
                 print!(rt; " ")?;
                 self.act(act)?;
                 print!(rt; " {reaction}")?;
             }
         }
-        println!(rt; "{}", if any { "" } else { " nothing" })?;
+        println!(rt; "{}", if self.has_marks() { "" } else { " nothing" })?;
         Ok(())
     }
 
     // The facts that hold in a state.
     fn facts_of(self, state: u32) -> Result<(), Failure> {
         let (rt, lock) = (self.rt, self.job.lock());
-        let mut any = false;
         for fact in (0..lock.facts()).filter(|fact| lock.holds(state, *fact)) {
-            any = true;
             print!(rt; " ")?;
             self.fact(fact)?;
         }
+        let any = (0..lock.facts()).any(|fact| lock.holds(state, fact));
         println!(rt; "{}", if any { "" } else { " no fact" })?;
         Ok(())
     }
@@ -48,15 +53,12 @@ impl Page<'_> {
     // What changes from one state to another, fact by fact.
     fn changes(self, from: u32, to: u32) -> Result<(), Failure> {
         let (rt, lock) = (self.rt, self.job.lock());
-        let mut any = false;
-        for fact in 0..lock.facts() {
-            let after = lock.holds(to, fact);
-            if lock.holds(from, fact) != after {
-                any = true;
-                print!(rt; "{}", if after { " +" } else { " -" })?;
-                self.fact(fact)?;
-            }
+        let changed = |fact: &u8| lock.holds(from, *fact) != lock.holds(to, *fact);
+        for fact in (0..lock.facts()).filter(changed) {
+            print!(rt; "{}", if lock.holds(to, fact) { " +" } else { " -" })?;
+            self.fact(fact)?;
         }
+        let any = (0..lock.facts()).any(|fact| changed(&fact));
         print!(rt; "{}", if any { "" } else { " nothing changes" })?;
         Ok(())
     }

@@ -1,13 +1,15 @@
 use super::page::Page;
 use intake::Failure;
+use locks::facts::FactCount;
 use locks::lock::{Lock, MOST_FACTS};
 use routine::routine::Routine;
 
 // How many valuations the facts of the lock have.
 fn valuations(lock: &impl Lock) -> u32 {
-    1u32 << lock.facts().min(MOST_FACTS)
+    FactCount::new(lock.facts()).map_or(1 << MOST_FACTS, |facts| facts.valuations())
 }
 
+// Points are numbers and no list, and each line that is printed may fail: so loops print them.
 impl Page<'_> {
     // How often a point may stop over all valuations.
     fn stops(self, point: u32) -> Result<(), Failure> {

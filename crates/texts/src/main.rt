@@ -84,6 +84,7 @@ fn spelt(heap: Global, text: &Text) -> Result<Vec<u8>, AllocError> {
         Text::Plain(all) => bytes.extend_from_slice(all.as_bytes())?,
         Text::Repeated(start, part, times, end) => {
             bytes.extend_from_slice(start.as_bytes())?;
+            // A loop and no chain: each part more may want memory.
             for _ in 0..*times {
                 bytes.extend_from_slice(part.as_bytes())?;
             }
