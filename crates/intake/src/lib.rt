@@ -1,7 +1,8 @@
 // Taking in the bytes of a job file, from a path or from standard input, and no more of them than are needed to refuse a long one.
 #![tactic(auto)]
 
-ghost use Rattle.std.specs.Prelude.{◌+◌, ◌<◌, ◌≤◌, IfOk, IfSome, vec_len};
+ghost use Rattle.std.specs.Prelude.{◌≡◌, ◌+◌, ◌<◌, ◌≤◌, IfOk, IfSome, vec_len};
+ghost use Rattle.intake.specs.declared.Failure.TheVariants.{Memory, Output};
 
 use std::alloc::{AllocError, Global};
 use std::io::Read;
@@ -23,12 +24,16 @@ pub enum Failure {
 }
 
 impl From<AllocError> for Failure {
+    ghost from_gives = { λ _ r. r ≡ Memory };
+
     fn from(_e: AllocError) -> Failure {
         Failure::Memory
     }
 }
 
 impl From<io::Error> for Failure {
+    ghost from_gives = { λ e r. r ≡ Output e };
+
     fn from(e: io::Error) -> Failure {
         Failure::Output(e)
     }

@@ -1,1 +1,3 @@
+pub mod AfterBelow
+pub mod Naming
 pub mod Searches

@@ -1,4 +1,4 @@
--- What `any`, `find` and `find_map` over 0..n answer, said of the numbers below n.
+-- What `any`, `find` and the first answer of a `filter_map` over 0..n say of the numbers below n.
 use Rattle.std.proofs.Common.{◌≡◌, ℕ, zero, suc, ◌+◌, ◌<◌, ◌≤◌, Bool, true, false, ◌||◌, List, [], ◌∷◌, ◌++◌, length, get_or, inl, inr, Some, None, Option, MatchOption, refl, sym, ap, ap₂, ◌∙◌, add-one, subst, arith}
 use denote.Param.Members.{Mut}
 use denote.Ref.{Bor}

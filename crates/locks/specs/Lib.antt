@@ -6,3 +6,4 @@ pub mod LayerLaws
 pub mod AllowanceLaws
 pub mod AnyBelow
 pub mod Facts
+pub mod Wording

@@ -3,6 +3,7 @@ ghost use Rattle.locks.specs.Allowed.{marked, allowance, unmarked_possible, laye
 ghost use Rattle.locks.specs.Layer.{layered, fits, admitted};
 ghost use Rattle.locks.specs.LayerLaws.{layered_lawful, layered_live};
 ghost use Rattle.locks.specs.AllowanceLaws.{allowance_sound, allowance_lively};
+ghost use Rattle.locks.specs.Wording.{layer_words};
 
 use crate::lock::{LiveLock, Lock, MOST_STATES, REACTIONS};
 use crate::marks::Marks;
@@ -19,6 +20,8 @@ pub enum LayerFault {
 }
 
 impl fmt::Display for LayerFault {
+    ghost output = { λ f. Some (layer_words f) };
+
     fn fmt<W: fmt::Write>(&self, f: &mut fmt::Formatter<W>) -> fmt::Result {
         f.write_str(match self {
             LayerFault::Allowance(_) => "the allowance is above 7",
@@ -77,6 +80,14 @@ impl<L: Lock> Allowance<L> {
         self.lower.states() * self.size() <= MOST_STATES
     }
 
+    // The state of the lock below and how many marked reactions are left; nothing if the layer means the lock below.
+    fn parts(&self, state: u32) -> Option<(u32, u32)>
+        ensures { result ≡ (if fits (L.Lock.meaning self.now.lower) (self.now.most + 1) then Some (state / (self.now.most + 1), state % (self.now.most + 1)) else None) }
+    {
+        self.fits()
+            .then(|| (state / self.size(), state % self.size()))
+    }
+
     // The state of the lock below.
     fn below(&self, state: u32) -> u32
         ensures { result ≡ (if fits (L.Lock.meaning self.now.lower) (self.now.most + 1) then state / (self.now.most + 1) else state) }
@@ -86,13 +97,6 @@ impl<L: Lock> Allowance<L> {
         } else {
             state
         }
-    }
-
-    // How many marked reactions are left; nothing if the layer means the lock below.
-    fn left(&self, state: u32) -> Option<u32>
-        ensures { result ≡ (if fits (L.Lock.meaning self.now.lower) (self.now.most + 1) then Some (state % (self.now.most + 1)) else None) }
-    {
-        self.fits().then(|| state % self.size())
     }
 
     fn unmarked_possible(&self, below: u32, act: u8) -> bool
@@ -158,22 +162,20 @@ impl<L: Lock> Lock for Allowance<L> {
     }
 
     fn possible(&self, state: u32, act: u8, reaction: u8) -> bool {
-        let below = self.below(state);
-        match self.left(state) {
-            Some(left) => self.admits(below, left, act, reaction),
-            None => self.lower.possible(below, act, reaction),
+        match self.parts(state) {
+            Some((below, left)) => self.admits(below, left, act, reaction),
+            None => self.lower.possible(state, act, reaction),
         }
     }
 
     fn after(&self, state: u32, act: u8, reaction: u8) -> u32 {
-        let below = self.below(state);
-        let after = self.lower.after(below, act, reaction);
-        match self.left(state) {
-            Some(left) if self.admits(below, left, act, reaction) => {
-                after * self.size() + self.next_left(left, act, reaction)
+        match self.parts(state) {
+            Some((below, left)) if self.admits(below, left, act, reaction) => {
+                self.lower.after(below, act, reaction) * self.size()
+                    + self.next_left(left, act, reaction)
             }
             Some(_) => 0,
-            None => after,
+            None => self.lower.after(state, act, reaction),
         }
     }
 }

@@ -59,6 +59,8 @@ impl Lock for Lowest {
         }
     }
 
+    // This and the next question are put where they are asked: the search for an act without reaction asks them of every state.
+    #[inline(always)]
     fn allowed(&self, state: u32, act: u8) -> bool {
         match self {
             Lowest::Empty => false,
@@ -67,6 +69,7 @@ impl Lock for Lowest {
         }
     }
 
+    #[inline(always)]
     fn possible(&self, state: u32, act: u8, reaction: u8) -> bool {
         match self {
             Lowest::Empty => false,

@@ -2,3 +2,4 @@ pub mod Contents
 pub mod Weigh
 pub mod Stands
 pub mod Closing
+pub mod Wording

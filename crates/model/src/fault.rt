@@ -1,4 +1,5 @@
-ghost use Rattle.std.specs.Prelude.{◌≡◌};
+ghost use Rattle.std.specs.Prelude.{◌≡◌, Some};
+ghost use Rattle.model.specs.Wording.{model_words};
 ghost use Rattle.model.specs.declared.fault.ModelFault.TheVariants.{Record, Stuck, Layer, Memory};
 
 use locks::allowance::LayerFault;
@@ -66,6 +67,8 @@ impl From<LayerFault> for ModelFault {
 }
 
 impl fmt::Display for ModelFault {
+    ghost output = { λ f. Some (model_words f) };
+
     fn fmt<W: fmt::Write>(&self, f: &mut fmt::Formatter<W>) -> fmt::Result {
         match self {
             ModelFault::Record(inner) => write!(f, "{inner}"),

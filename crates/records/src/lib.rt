@@ -1,9 +1,10 @@
 // Records: what a job file is made of. This layer knows of no kind.
 #![tactic(auto)]
 
-ghost use Rattle.std.specs.Prelude.{◌≡◌, ℕ, ◌+◌, ◌*◌, ◌<◌, ◌≤◌, length, MatchResult};
+ghost use Rattle.std.specs.Prelude.{◌≡◌, ℕ, ◌+◌, ◌*◌, ◌<◌, ◌≤◌, Some, length, MatchResult};
 ghost use Rattle.records.specs.Split.{front, two_bytes};
 ghost use Rattle.records.specs.Split.Front.{cut, whole};
+ghost use Rattle.records.specs.Wording.{record_words};
 
 use std::fmt;
 
@@ -25,6 +26,8 @@ pub enum RecordFault {
 }
 
 impl fmt::Display for RecordFault {
+    ghost output = { λ f. Some (record_words f) };
+
     fn fmt<W: fmt::Write>(&self, f: &mut fmt::Formatter<W>) -> fmt::Result {
         f.write_str(match self {
             RecordFault::Cut(_) => "the record is cut short",

@@ -1,17 +1,18 @@
 -- The lowest two ways, found point by point, are those of the definition.
-use Rattle.std.proofs.Common.{◌≡◌, ℕ, ◌+◌, ◌*◌, ◌/◌, ◌%◌, ◌<◌, Bool, true, false, sym, refl, ap, ◌∙◌, subst, inl, inr, div-add-mod', arith}
+use Rattle.std.proofs.Common.{◌≡◌, ℕ, ◌+◌, ◌*◌, ◌/◌, ◌%◌, ◌<◌, ◌≤◌, Bool, true, false, Some, None, MatchOption, sym, refl, ap, ◌∙◌, subst, inl, inr, div-add-mod', arith}
+use Rattle.std.proofs.Common as std
 use mathlib.Core.Option.{Option, none, some}
 use native.Mathlib.Nat.{div-div-eq-div-mul}
 use lib.Arith.{digits_lt}
 use Rattle.std.proofs.lemmas.Nat.{mod_below, div_below}
-use Rattle.std.proofs.lemmas.Bool.{cases_order, both_ways}
+use Rattle.std.proofs.lemmas.Bool.{cases_lt, cases_order, both_ways}
 use Rattle.golog.specs.Programs.{Prog}
 use Rattle.golog.specs.Search.{lowest}
 use Rattle.golog.specs.Points.{points, two_ways_at, ways, ways_of}
 use Rattle.golog.specs.Points.Ways.{one_way, two_ways}
 use Rattle.golog.proofs.OneWays.{triple, triple_below, triple_outer, triple_middle, triple_inner}
 use Rattle.golog.proofs.Searches.{none_of, lowest_none, lowest_some}
-use Rattle.routine.specs.Found.{NoneBelow}
+use Rattle.routine.specs.Found.{NoneBelow, FoundSecond}
 
 pub lowest_is : (n : ℕ) (t : ℕ → Bool) (k : ℕ) → k < n → t k ≡ true → NoneBelow k t → lowest n t ≡ some k
 lowest_is n t k h e none_lower = found (lowest n t) refl
@@ -25,6 +26,20 @@ lowest_is n t k h e none_lower = found (lowest n t) refl
           | inr (inl z) ↦ absurd (both_ways (t i) (none_lower i z) a)
           | inr (inr z) ↦ absurd (both_ways (t k) (b k z) e)
         ]
+
+-- what a search above q finds, of a test that passes nothing up to q
+module _ (n q : ℕ) (b t : ℕ → Bool) (same : (r : ℕ) → q < r → r < n → b r ≡ t r) (low : (r : ℕ) → r ≤ q → t r ≡ false) where
+  none_under : (m : ℕ) → m ≤ n → ((k : ℕ) → q + 1 ≤ k → k < m → b k ≡ false) → NoneBelow m t
+  none_under m h fails k l = elim (cases_lt q k) [
+    | inl g ↦ sym (same k g (omega arith)) ∙ fails k (omega arith) l
+    | inr g ↦ low k (omega arith)
+  ]
+
+  pub found_above : (o : std.Option ℕ)
+      → MatchOption o ((k : ℕ) → q + 1 ≤ k → k < n → b k ≡ false) (λ r. (q + 1 ≤ r) × (r < n) × (b r ≡ true) × ((k : ℕ) → q + 1 ≤ k → k < r → b k ≡ false))
+      → FoundSecond n t o
+  found_above None fails = none_under n (omega arith) fails
+  found_above (Some r) h = (h.1, sym (same r (omega (arith, h.0)) h.1) ∙ h.2, none_under r (omega (arith, h.1)) h.3)
 
 module _ (facts : ℕ) (δ : Prog) where
   n : ℕ

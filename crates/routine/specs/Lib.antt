@@ -5,3 +5,4 @@ pub mod Kept
 pub mod Found
 pub mod Faults
 pub mod Routines
+pub mod Wording

@@ -7,3 +7,4 @@ pub mod Built
 pub mod Conds
 pub mod Progs
 pub mod Parse
+pub mod Wording

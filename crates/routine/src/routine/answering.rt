@@ -72,18 +72,12 @@ impl Routine {
         self.row(point, valuation).goes_on()
     }
 
-    // Whether a point comes next from another, and the act is the word before it.
-    fn comes_next_by(&self, from: u32, to: u32, act: u8, valuation: u32) -> bool
-        ensures { result ≡ next_by (routine_prog self.now) (valued valuation) from act to }
-    {
-        self.word(to) == act && self.comes_next(from, to, valuation)
-    }
-
     // Whether some point comes next by the act.
     pub fn has_next(&self, point: u32, act: u8, valuation: u32) -> bool
         ensures { result ≡ any_below (points (routine_prog self.now)) (next_by (routine_prog self.now) (valued valuation) point act) }
     {
-        (0..self.points()).any(|k| self.comes_next_by(point, u32::from(k), act, valuation))
+        let next = self.row(point, valuation).next;
+        (0..self.points()).any(|k| next.contains(k) && self.word(u32::from(k)) == act)
     }
 
     // The lowest point that comes next by the act under the valuation before and goes on under the valuation after;
@@ -92,9 +86,11 @@ impl Routine {
         ensures is { found result ≡ lowest (points (routine_prog self.now)) (leads_to (routine_prog self.now) (valued before) (valued after) point act) }
         ensures one { OneWay (routine_prog self.now) }
     {
+        let next = self.row(point, before).next;
         (0..self.points()).find(|k| {
-            let next = u32::from(*k);
-            self.comes_next_by(point, next, act, before) && self.goes_on(next, after)
+            next.contains(*k)
+                && self.word(u32::from(*k)) == act
+                && self.goes_on(u32::from(*k), after)
         })
     }
 

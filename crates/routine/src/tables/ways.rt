@@ -36,6 +36,10 @@ impl Tables {
                 set = set.union(next);
             }
         }
+        // From most points `first` never comes next; then nothing does with it, and those of its act need not be sought.
+        if !set.has_some() {
+            return set;
+        }
         set.common(self.alike(first))
     }
 
@@ -61,7 +65,7 @@ impl Tables {
         let both = self
             .together(from, first)
             .common(self.go_on_together(first));
-        (0..self.points()).find(|second| first < *second && both.contains(*second))
+        (first + 1..self.points()).find(|second| both.contains(*second))
     }
 
     // The lowest two ways from a point.

@@ -1,7 +1,12 @@
+ghost use Rattle.std.specs.Prelude.{Some};
+ghost use Rattle.text.specs.Wording.{text_words};
+
 use super::TextFault;
 use std::fmt;
 
 impl fmt::Display for TextFault {
+    ghost output = { λ f. Some (text_words f) };
+
     fn fmt<W: fmt::Write>(&self, f: &mut fmt::Formatter<W>) -> fmt::Result {
         f.write_str(match self {
             TextFault::Word(_) => "this is no word of a routine",

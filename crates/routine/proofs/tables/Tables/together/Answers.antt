@@ -1,7 +1,9 @@
-use Rattle.std.proofs.Common.{◌≡◌, ℕ, ◌^◌, Bool, ◌&&◌, sym, ap, ◌∙◌, arith}
+use Rattle.std.proofs.Common.{◌≡◌, ℕ, ◌^◌, Bool, false, ◌&&◌, eqb, sym, ap, ◌∙◌, arith}
+use Rattle.std.proofs.Math.Bool.{and-false}
 use Rattle.locks.specs.Meaning.{any_below}
-use Rattle.golog.specs.Points.{next, valuation}
-use Rattle.routine.specs.Sets.{has}
+use Rattle.locks.specs.AnyBelow.{none_below}
+use Rattle.golog.specs.Points.{word, next, valuation}
+use Rattle.routine.specs.Sets.{room, has}
 use Rattle.routine.specs.Kept.{tables_prog}
 use Rattle.routine.proofs.Unions.{joined_more, left_out, together_is}
 use Rattle.routine.proofs.tables.Tables.together.Goals as goal
@@ -22,6 +24,16 @@ loop-valuation-preserved c j h =
       | else-contains w ↦
           ap (λ s. has s j) w.set-is ∙ left_out a b v (has c.loop-valuation.set j) (c.loop-valuation.invariant j h) (sym first ∙ w.if-contains.false)
     ]
+
+pub returns-then-not-has_some : goal.returns-then-not-has_some
+unfolding Rattle.routine.specs.Sets.some_in
+returns-then-not-has_some c j h =
+    let δ = tables_prog c.args.self.now in
+    let e : c.loop-valuation.valuation ≡ 2 ^ c.args.self.now.facts = omega arith in
+    let some : ℕ → Bool = λ m. any_below m (λ n. next δ (valuation n) c.args.from c.args.first && next δ (valuation n) c.args.from j) in
+    let none : has c.loop-valuation.set j ≡ false = none_below room (has c.loop-valuation.set) (sym c.has_some.ensures ∙ c.if-not-has_some.true) j h in
+    let same : Bool = eqb (word δ c.args.first) (word δ j) in
+    none ∙ sym (ap (λ b. same && b) (sym (c.loop-valuation.invariant j h ∙ ap some e) ∙ none) ∙ and-false same)
 
 pub returns : goal.returns
 returns c j h =
